@@ -49,6 +49,14 @@ export function parseIp(text) {
 }
 
 /**
+ * The text of an IP address as RFC 5952 writes it.
+ * @param {string} text
+ */
+export function canonicalIp(text) {
+    return parseIp(text)?.text ?? text;
+}
+
+/**
  * An IPv4 address has one text.
  * @param {string} text
  * @param {number[]} bytes

@@ -1,6 +1,8 @@
 // Data through an open relay: permissions, channels, queues, listeners, and what is full.
 import assert from "node:assert/strict";
+import dgram from "node:dgram";
 import test from "node:test";
+import { DatagramLink } from "../src/node/link.js";
 import { next, openRelay, tcp, udp, until, withServer } from "./relays.js";
 import { dataOf } from "./server.js";
 import { METHOD } from "./stun.js";
@@ -96,6 +98,21 @@ test("an IPv6 address is one in each spelling: permissions, channels, what is se
         await relay.permit(`2001:DB8::A${at}`, { signal });
     }
     await relay.close();
+    server.close();
+});
+
+test("who waits for room in the socket and finds it full again waits again", async (context) => {
+    await withServer(udp, async (_server, relay) => {
+        await relay.bind(PEER);
+        const handed = context.mock.method(dgram.Socket.prototype, "send"); // the system drops some: nobody reads meanwhile
+        await Promise.all(Array.from({ length: 1_000 }, (_, at) => relay.send(Buffer.alloc(20, at), PEER)));
+        assert.deepEqual([handed.mock.callCount(), relay.unsent], [1_000, 0]);
+        handed.mock.restore();
+    });
+    const server = await udp(), link = await DatagramLink.connect("127.0.0.1", server.port, undefined);
+    const sent = await Promise.all(Array.from({ length: 1_000 }, () => link.hasRoom().then(() => link.sendData(Buffer.alloc(20)))));
+    assert.deepEqual(sent.filter((isSent) => !isSent), []);
+    link.close();
     server.close();
 });
 

@@ -41,6 +41,20 @@ test("an end by itself ends for await with its reason, and without a listener no
     });
 });
 
+test("an end by itself is an error event, too, where for await was left", async (context) => {
+    await withServer(tcp, async (server, relay) => {
+        await relay.permit(PEER.address);
+        server.sendData(PEER, "x");
+        for await (const _ of relay) {
+            break;
+        }
+        const emitted = context.mock.method(relay, "emit", () => true), names = () => emitted.mock.calls.map((call) => call.arguments[0]);
+        server.close();
+        await until(() => names().includes("close"));
+        assert.deepEqual(names(), ["error", "close"]); // nobody listens, so that Node throws it
+    });
+});
+
 test("close ends for await without an error", async () => {
     await withServer(udp, async (server, relay) => {
         const taking = (async () => {

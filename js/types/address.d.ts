@@ -5,6 +5,11 @@
  */
 export function parseIp(text: string): ParsedIp | undefined;
 /**
+ * The text of an IP address as RFC 5952 writes it.
+ * @param {string} text
+ */
+export function canonicalIp(text: string): string;
+/**
  * The address at a place, or undefined where there is none.
  * @param {DataView} view
  * @param {number} place

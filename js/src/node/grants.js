@@ -1,5 +1,6 @@
 // Permissions and channels: asked for, granted, and lost.
 import { ChannelFailed, PermissionFailed, Refused } from "../errors.js";
+import { canonicalIp } from "../address.js";
 import { channelKey, permissionKey } from "./reasons.js";
 
 /** @typedef {import("../address.js").Address} Address */
@@ -45,9 +46,10 @@ export class Grants {
 
     /**
      * Asks for a permission, unless there is one, and waits for the answer.
-     * @param {string} ip
+     * @param {string} given an IP address in any spelling: events have the canonical one
      */
-    async permit(ip) {
+    async permit(given) {
+        const ip = canonicalIp(given);
         if (this.#usable().havePermission(ip)) {
             return;
         }

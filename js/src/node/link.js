@@ -3,6 +3,7 @@ import dgram from "node:dgram";
 import net from "node:net";
 import tls from "node:tls";
 import { abortable, Deferred } from "./deferred.js";
+import { Room } from "./room.js";
 
 /**
  * What is told of a link.
@@ -34,8 +35,7 @@ export class DatagramLink {
     isOver = false;
     #socket;
     #pending = 0;
-    /** @type {Deferred<void> | undefined} */
-    #room;
+    #room = new Room(this);
 
     /**
      * @param {string} host
@@ -81,7 +81,7 @@ export class DatagramLink {
     #closed() {
         const wasOver = this.isOver;
         this.isOver = true;
-        this.#room?.resolve();
+        this.#room.freed();
         if (!wasOver) {
             this.user.ended(undefined);
         }
@@ -95,8 +95,7 @@ export class DatagramLink {
             this.#refused(error);
         }
         if (wasFull && !this.isOver) {
-            this.#room?.resolve();
-            this.#room = undefined;
+            this.#room.freed();
             this.user.drained();
         }
     };
@@ -125,11 +124,8 @@ export class DatagramLink {
     }
 
     /** Waits until there is room, or the link has ended. */
-    async hasRoom() {
-        while (this.isFull && !this.isOver) {
-            this.#room ??= new Deferred();
-            await this.#room.promise;
-        }
+    hasRoom() {
+        return this.#room.wait();
     }
 
     /** @param {boolean} isKept */
@@ -140,7 +136,7 @@ export class DatagramLink {
     close() {
         if (!this.isOver) {
             this.isOver = true;
-            this.#room?.resolve();
+            this.#room.freed();
             this.#socket.close();
         }
     }
@@ -154,8 +150,7 @@ export class StreamLink {
     #socket;
     /** @type {Error | undefined} */
     #error;
-    /** @type {Deferred<void> | undefined} */
-    #room;
+    #room = new Room(this);
 
     /**
      * @param {string} host
@@ -200,15 +195,14 @@ export class StreamLink {
     }
 
     #drained() {
-        this.#room?.resolve();
-        this.#room = undefined;
+        this.#room.freed();
         this.user.drained();
     }
 
     #closed() {
         const wasOver = this.isOver;
         this.isOver = true;
-        this.#room?.resolve();
+        this.#room.freed();
         if (!wasOver) {
             this.user.ended(this.#error);
         }
@@ -237,11 +231,8 @@ export class StreamLink {
     }
 
     /** Waits until there is room, or the link has ended. */
-    async hasRoom() {
-        while (this.isFull && !this.isOver) {
-            this.#room ??= new Deferred();
-            await this.#room.promise;
-        }
+    hasRoom() {
+        return this.#room.wait();
     }
 
     /** @param {boolean} isKept */
@@ -253,7 +244,7 @@ export class StreamLink {
     close() {
         if (!this.isOver) {
             this.isOver = true;
-            this.#room?.resolve();
+            this.#room.freed();
             this.#socket.end();
             setTimeout(() => this.#socket.destroy(), 1_000).unref();
         }

@@ -9,7 +9,8 @@ export class Messages extends EventEmitter {
     #inbox;
     /** @type {import("../errors.js").Ended | undefined} */
     #why;
-    #isIterated = false;
+    /** How many `for await` have begun, and have not ended or been left. */
+    #iterating = 0;
 
     /** @param {number} queue */
     constructor(queue) {
@@ -82,7 +83,7 @@ export class Messages extends EventEmitter {
     end(why) {
         this.#why = why;
         this.#inbox.end();
-        if (why && (this.listenerCount("error") > 0 || !this.#isIterated)) {
+        if (why && (this.listenerCount("error") > 0 || this.#iterating === 0)) {
             this.emitLater("error", why);
         }
         this.emitLater("close");
@@ -93,9 +94,13 @@ export class Messages extends EventEmitter {
      * @returns {AsyncGenerator<[data: Buffer, peer: Address], void, void>}
      */
     async *[Symbol.asyncIterator]() {
-        this.#isIterated = true;
-        for (let packet; (packet = await this.#inbox.take()); ) {
-            yield packet;
+        this.#iterating++;
+        try {
+            for (let packet; (packet = await this.#inbox.take()); ) {
+                yield packet;
+            }
+        } finally {
+            this.#iterating--;
         }
         if (this.#why) {
             throw this.#why;

@@ -28,7 +28,7 @@ const ASYNC_DISPOSE = /** @type {{ asyncDispose?: symbol }} */ (Symbol).asyncDis
  *
  * - `message` (data, peer): a peer sent data, a Buffer. Without a listener it waits for `for await`.
  * - `error` (an `Ended`): the relay has ended by itself. As with all emitters an error that nobody listens to is thrown, unless a
- *   `for await` has it.
+ *   `for await` is under way, which has it.
  * - `close`: it has ended, by `close` or by itself. Nothing comes any more.
  * - `lost` (`{ what, ip }` or `{ what, peer }`): the server no longer renews a permission or a channel. It may have been restarted.
  * - `socketError` (an error): of a socket over UDP, which does not end the relay, as when a network goes.
@@ -40,7 +40,7 @@ export class Relay extends Messages {
      * @type {import("./grants.js").Lost[]}
      */
     lost = [];
-    /** How many packets to peers the socket did not take. What is lost further on, nobody counts. */
+    /** How many packets of `sendTo` the socket did not take. What is lost further on, nobody counts. */
     unsent = 0;
     #family;
     /** @type {Session | undefined} */
@@ -162,7 +162,8 @@ export class Relay extends Messages {
      */
     async permit(ip, { signal } = {}) {
         const session = this.#open();
-        await abortable(session.grants.permit(this.#reachable(ip)), signal);
+        this.#checkFamily(ip);
+        await abortable(session.grants.permit(ip), signal);
     }
 
     /**
@@ -176,7 +177,7 @@ export class Relay extends Messages {
      */
     async bind(port, address, { signal } = {}) {
         const peer = peerOf(port, address), session = this.#open();
-        this.#reachable(peer.address);
+        this.#checkFamily(peer.address);
         await abortable(session.grants.bind(peer), signal);
     }
 
@@ -240,16 +241,27 @@ export class Relay extends Messages {
             await new Promise((resolve) => setImmediate(resolve));
         }
         this.#count = session.count;
-        await session.link.hasRoom();
         try {
-            this.#sendNow(bytes, peer);
+            await this.#sendInRoom(bytes, peer, session);
         } catch (error) {
             if (!(error instanceof Refused) || error.reason !== "no-permission") {
                 throw error;
             }
             await session.grants.permitToSend(peer.address);
-            this.#sendNow(bytes, peer);
+            await this.#sendInRoom(bytes, peer, session);
         }
+    }
+
+    /**
+     * Sends data to a peer that has a permission, when there is room in the socket.
+     * @param {Uint8Array} bytes
+     * @param {Address} peer
+     * @param {Session} session
+     */
+    async #sendInRoom(bytes, peer, session) {
+        do {
+            await session.link.hasRoom();
+        } while (!this.#sendNow(bytes, peer));
     }
 
     /**
@@ -261,7 +273,9 @@ export class Relay extends Messages {
      * @param {string} [address]
      */
     sendTo(data, port, address) {
-        return this.#sendNow(dataOf(data), peerOf(port, address));
+        const isSent = this.#sendNow(dataOf(data), peerOf(port, address));
+        this.unsent += isSent ? 0 : 1;
+        return isSent;
     }
 
     /**
@@ -270,23 +284,20 @@ export class Relay extends Messages {
      */
     #sendNow(bytes, peer) {
         const session = this.#open();
-        this.#reachable(peer.address);
-        const isSent = session.sendData(bytes, peer);
-        this.unsent += isSent ? 0 : 1;
-        return isSent;
+        this.#checkFamily(peer.address);
+        return session.sendData(bytes, peer);
     }
 
     /**
-     * The canonical text of an IP address. Refuses one that the relayed address cannot reach.
+     * Refuses a peer that the relayed address cannot reach.
      * @param {string} ip
      */
-    #reachable(ip) {
+    #checkFamily(ip) {
         const found = ipOf(ip);
         if (found.family !== this.#family) {
             const detail = `the relayed address is IPv${this.#family}, and ${ip} is IPv${found.family}`;
             throw new Refused("no-allocation", 0, `${detail} (family: ${found.family} gets such an address)`);
         }
-        return found.text;
     }
 
     // The end

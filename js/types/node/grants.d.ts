@@ -10,9 +10,9 @@ export class Grants {
     constructor(usable: () => import("../client.js").Client, drive: () => void, clock: import("./clock.js").Clock, requests: import("./requests.js").Requests, tellLost: (lost: Lost) => void);
     /**
      * Asks for a permission, unless there is one, and waits for the answer.
-     * @param {string} ip
+     * @param {string} given an IP address in any spelling: events have the canonical one
      */
-    permit(ip: string): Promise<void>;
+    permit(given: string): Promise<void>;
     /**
      * The same, for data that is to be sent: a peer that was refused is left alone for a while.
      * @param {string} ip

@@ -11,7 +11,7 @@
  *
  * - `message` (data, peer): a peer sent data, a Buffer. Without a listener it waits for `for await`.
  * - `error` (an `Ended`): the relay has ended by itself. As with all emitters an error that nobody listens to is thrown, unless a
- *   `for await` has it.
+ *   `for await` is under way, which has it.
  * - `close`: it has ended, by `close` or by itself. Nothing comes any more.
  * - `lost` (`{ what, ip }` or `{ what, peer }`): the server no longer renews a permission or a channel. It may have been restarted.
  * - `socketError` (an error): of a socket over UDP, which does not end the relay, as when a network goes.
@@ -38,7 +38,7 @@ export class Relay extends Messages {
      * @type {import("./grants.js").Lost[]}
      */
     lost: import("./grants.js").Lost[];
-    /** How many packets to peers the socket did not take. What is lost further on, nobody counts. */
+    /** How many packets of `sendTo` the socket did not take. What is lost further on, nobody counts. */
     unsent: number;
     /**
      * The relayed address: peers send to it, and see data come from it. It stays what it was after the end.
