@@ -5,5 +5,6 @@ the runs that one seed printed: over TCP the second has the streams of the first
 """
 
 CLAUSES = [
-    "granted", "numbers", "bound", "given", "heard", "counted", "challenges", "realm", "cuts", "alarm", "events", "processed",
+    "granted", "numbers", "bound", "offers", "given", "heard", "counted", "challenges", "realm", "cuts", "order", "sent", "lasts",
+    "alarm", "events", "once", "processed",
 ]  # fmt: skip

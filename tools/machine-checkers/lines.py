@@ -56,6 +56,10 @@ class Run:
     password: bytes
     calls: list
 
+    def last_open(self):
+        """The number of the last `poll` that a client answered which had not ended."""
+        return max((call.number for call in self.calls if call.name == "poll" and call.answer != ["closed"]), default=0)
+
 
 def run_of(lines):
     head = lines[0].split(" ")

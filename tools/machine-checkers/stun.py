@@ -91,6 +91,11 @@ def message_of(raw):
     return Message(raw, method, (word >> 4 & 1) | (word >> 7 & 2), raw[8:20], seen, integrity)
 
 
+def has_unknown(indication):
+    """Whether a Data indication has a comprehension-required attribute that is neither peer nor data (RFC 8656, section 11.4)."""
+    return any(kind < 0x8000 and kind not in (PEER, PEER_DATA) for kind, _ in indication.seen)
+
+
 def channel_of(raw):
     """The number and the data of a ChannelData message (RFC 8656, section 12.4), or None."""
     if len(raw) < 4 or not 0x40 <= raw[0] <= 0x4F:
