@@ -1,6 +1,7 @@
 """The library through `library.py` and `client.py`: what it answers, what it refuses, and that nothing is kept."""
 import ctypes
 import gc
+import itertools
 import os
 import pathlib
 import re
@@ -10,10 +11,11 @@ import sys
 import tempfile
 import threading
 import time
+import timeit
 import unittest
-from typing import Any, Dict, List
+from typing import Any, Callable, Dict, List, Optional
 
-from yarrowdoor import address, layout, library
+from yarrowdoor import address, handle, layout, library
 from yarrowdoor import client as sans_io
 from yarrowdoor.errors import Busy, LibraryError, Refused
 
@@ -140,8 +142,8 @@ class Ownership(unittest.TestCase):
     """A client is used by one thread at a time, and is freed once."""
 
     def test_a_second_thread_gets_an_error(self) -> None:
-        client = new_client()
-        token = client._handle._take()
+        within = CallingLibrary()
+        client = new_client(library=within)
         found: List[object] = []
 
         def use() -> None:
@@ -151,12 +153,74 @@ class Ownership(unittest.TestCase):
                 except Busy as error:
                     found.append(error)
 
-        thread = threading.Thread(target=use)
-        thread.start()
-        thread.join()
-        client._handle._give(token)
+        def use_in_a_thread() -> None:
+            thread = threading.Thread(target=use)
+            thread.start()
+            thread.join()
+
+        within.calls = use_in_a_thread
+        self.assertEqual(client.poll(0), sans_io.WaitUntil(0))
         self.assertEqual([type(it) for it in found], [Busy] * 3)
         self.assertEqual(client.poll(0), sans_io.WaitUntil(0))
+
+    def test_an_interrupt_leaves_the_client_to_the_next_call(self) -> None:
+        """Each call is interrupted before each of its steps, as Ctrl-C may do it."""
+        client = new_client()
+        client.poll_transmit(0)
+        calls: List[Callable[[], object]] = [
+            lambda: client.poll(0), lambda: client.data_from(b"\x40\0\0\0", 0), lambda: client.recv(bytearray(4), 0),
+            lambda: client.data_to(("192.0.2.7", 9), b"x", 0), lambda: client.head_to(("192.0.2.7", 9), 1, 0),
+        ]
+        for call in calls:
+            steps = 0
+            while interrupted(call, steps, lambda: self.assertEqual(client.poll(0), sans_io.WaitUntil(500_000_000))):
+                steps += 1
+            self.assertGreater(steps, 20)
+
+    def test_who_shares_a_client_needs_no_turn(self) -> None:
+        """One that is shared sends while another call is under way, and in a signal's handler. It is freed when nobody has it."""
+        within = CallingLibrary()
+        client = new_client(library=within)
+        sends: List[Any] = [client.shared()]
+        refused: List[str] = []
+
+        def use() -> None:
+            with self.assertRaises(Refused) as raised:
+                sends[0](("192.0.2.7", 9), bytearray(b"x"), 0)
+            refused.append(raised.exception.reason)
+
+        within.calls = use
+        client.poll(0)
+        self.assertEqual(refused, ["no-permission"])
+        steps = 0
+        while interrupted(lambda: sends[0](("192.0.2.7", 9), b"x", 0), steps, use):
+            steps += 1
+        self.assertEqual(refused, ["no-permission"] * (steps + 1))
+        self.assertGreater(steps, 20)
+        with self.assertRaises(ValueError):
+            sends[0](("192.0.2.7", 9), bytes(70_000), 0)
+        client.close()
+        use()
+        self.assertEqual(within.freed, 0)
+        sends.clear()
+        del client
+        gc.collect()
+        self.assertEqual(within.freed, 1)
+
+    def test_bytes_of_each_kind_take_about_as_long(self) -> None:
+        client = new_client()
+        client.poll_transmit(0)
+
+        def least(data: Any) -> float:
+            return min(timeit.repeat(lambda: client.data_from(data, 0), number=50, repeat=40))
+
+        def least_of_new_lengths(kind: Any) -> float:
+            given = [kind(it) for it in range(1_000, 1_400)]
+            return min(timeit.timeit(lambda: [client.data_from(it, 0) for it in given[at:at + 50]], number=1)
+                       for at in range(0, 400, 50))
+
+        self.assertLess(least(bytearray(1_200)), 3 * least(bytes(1_200)))
+        self.assertLess(least_of_new_lengths(bytearray), 3 * least_of_new_lengths(bytes))
 
     def test_many_threads_break_nothing(self) -> None:
         """No call is made while another one is under way: it is `Busy`. The library is one that takes its time, in which threads
@@ -240,6 +304,53 @@ class SlowLibrary(CountingLibrary):
         answer = self.of.call(*args)
         self.inside -= 1
         return int(answer)
+
+
+class CallingLibrary(CountingLibrary):
+    """The library, which does something within the next call."""
+
+    def __init__(self) -> None:
+        super().__init__()
+        self.calls: Optional[Callable[[], None]] = None
+        self.call = self.call_first
+
+    def call_first(self, *args: object) -> int:
+        first, self.calls = self.calls, None
+        if first is not None:
+            first()
+        return int(self.of.call(*args))
+
+
+class Interrupted(Exception):
+    """What a signal's handler raises."""
+
+
+def interrupted(call: Callable[[], object], step: int, then: Callable[[], object]) -> bool:
+    """Makes a call, which is interrupted before a step of the interpreter, does something then, while the exception is there, and
+    says whether the call has so many steps."""
+    count, before = itertools.count(), sys.gettrace()
+
+    def trace(frame: Any, event: str, arg: object) -> Any:
+        if frame.f_code.co_filename != handle.__file__:
+            return None
+        frame.f_trace_opcodes = True
+        if event == "opcode" and next(count) == step:
+            raise Interrupted
+        return trace
+
+    try:
+        sys._getframe().f_trace_opcodes = True  # else Python 3.12 traces none
+        sys.settrace(trace)
+        call()
+        return False
+    except Interrupted:
+        sys.settrace(before)
+        then()
+        return True
+    except Refused:
+        return False
+    finally:
+        sys.settrace(before)
 
 
 OTHER = """

@@ -165,6 +165,19 @@ class Client:
             raise _refusal(self._handle)
         return sent
 
+    def shared(self) -> Callable[[AddressLike, Buffer, int], bytes]:
+        """A function like `data_to` for any thread, also while another one uses this client, and for a handler of a signal. What it
+        is made of is freed with the client and this function, and not by `close`."""
+        share = self._handle.sharing(self._relay_way)
+
+        def data_to(peer: AddressLike, data: Buffer, now: int) -> bytes:
+            sent = share(now, packed(peer), data)
+            if isinstance(sent, int):
+                raise Refused(_REASONS.get(sent, str(sent)))
+            return sent
+
+        return data_to
+
     def head_to(self, peer: AddressLike, size: int, now: int) -> Tuple[bytes, bytes]:
         """What stands before and behind `size` bytes of data in the bytes of `data_to`, so that the data is not copied:
 

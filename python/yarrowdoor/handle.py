@@ -7,16 +7,19 @@ from __future__ import annotations
 
 import ctypes
 import struct
+import sys
+import threading
 import weakref
-from typing import Callable, List, NoReturn, Optional, Protocol, Tuple, Union, cast
+from types import CodeType, FrameType
+from typing import Callable, List, NoReturn, Optional, Protocol, Set, Tuple, Union, cast
 
 from .errors import Busy
 from .layout import (
-    ANSWER, Answer, BAD_TIME, fail, FOUND, LENGTHS, MAX_OVERHEAD, MAX_PACKET, NO_ADDRESS, PACKET, PEER_DATA, PEER_DATA_RANGE,
-    PEER_PLACE, READ, RECV, REQUEST, SEND_HEAD, SEND_TO, SMALL_BUFFER,
+    ANSWER, Answer, BAD_PAYLOAD, BAD_TIME, fail, FOUND, LENGTHS, MAX_OVERHEAD, MAX_PACKET, NO_ADDRESS, PACKET, PEER_DATA,
+    PEER_DATA_RANGE, PEER_PLACE, READ, RECV, REFUSED, REQUEST, SEND_HEAD, SEND_TO, SMALL_BUFFER,
 )
 
-__all__ = ["Buffer", "Calls", "Handle", "Head", "Receive", "Send", "memory_of"]
+__all__ = ["Buffer", "Calls", "Handle", "Head", "Receive", "Send", "Share", "memory_of"]
 
 Buffer = Union[bytes, bytearray, memoryview]
 # The call RECV, of a time and bytes: kind, length, start and peer, of which the last three count where the kind is PEER_DATA_RANGE.
@@ -25,6 +28,8 @@ Receive = Callable[[int, Buffer], Tuple[int, int, int, bytes]]
 Send = Callable[[int, bytes, Buffer], Optional[bytes]]
 # The call SEND_HEAD, of a time, a peer and a length of data: what precedes the data and what follows it, or None as for SEND_TO.
 Head = Callable[[int, bytes, int], Optional[Tuple[bytes, bytes]]]
+# The call SEND_TO in any thread: the bytes to send, or the number of the error for which the client refuses it.
+Share = Callable[[int, bytes, Buffer], Union[bytes, int]]
 
 
 class Calls(Protocol):
@@ -46,8 +51,8 @@ class Room:
 class Handle:
     """A client of the library, owned: freed when nothing refers to it any more.
 
-    It is used by one thread at a time. A second one gets `Busy`, and its call is not made. After `free` each call raises
-    `ValueError`.
+    It is used by one thread at a time. A second one gets `Busy`, and its call is not made, but for `sharing`. A call that an
+    interrupt ends leaves the client to the next one. After `free` each call raises `ValueError`.
     """
 
     def __init__(self, library: Calls, settings: bytes, user: bytes, password: bytes, seed: bytes, guard: bytes = b"") -> None:
@@ -59,20 +64,27 @@ class Handle:
             fail(error)
         # Who takes the client from here may call, and gives it back. One step of the interpreter takes it, in a third of the time
         # that a lock needs.
-        here: List[object] = [ctypes.c_void_p.from_param(place.value)]
+        self._client: object = ctypes.c_void_p.from_param(place.value)
+        here: List[object] = [self._client]
+        self._here = here
         self._take, self._give = here.pop, here.append
+        self._is_shared = False
         self._library, self._call = library, library.call
         self._finalizer = weakref.finalize(self, library.free, place)
         # At exit a daemon thread may still be in a call. The system takes the memory back.
         self._finalizer.atexit = False
+        self._is_free = False
         self._request, self._answer = bytearray(REQUEST.size), bytearray(ANSWER.size) + guard
         self._request_at, self._answer_at = memory_of(self._request), memory_of(self._answer)
         self._room = Room(MAX_PACKET)
 
     def free(self) -> None:
-        """Frees the client, which sends nothing. A second time it does nothing."""
-        if self._finalizer.alive:
-            self._begin()  # It is not given back.
+        """Frees the client, which sends nothing. A second time it does nothing. One that is shared is freed when nobody has it."""
+        if self._is_free:
+            return
+        self._begin()  # It is not given back.
+        self._is_free = True
+        if not self._is_shared:
             self._finalizer()
 
     def _begin(self) -> object:
@@ -80,11 +92,36 @@ class Handle:
         try:
             return self._take()
         except IndexError:
-            raise self._refusal() from None
+            return self._retake()
 
-    def _refusal(self) -> Exception:
-        """Why nobody can take the client."""
-        return Busy("another thread uses this client") if self._finalizer.alive else ValueError("the client was closed")
+    def _retake(self) -> object:
+        """Takes the client where a call that was interrupted has not given it back: an exception of a signal's handler, as that of
+        Ctrl-C, may be raised between any two steps. `Busy` where another call is under way, and `ValueError` after `free`."""
+        with _retaking:
+            if self._is_free:
+                raise ValueError("the client was closed")
+            if not self._here and not self._is_in_call():
+                self._here[:] = [self._client]
+            try:
+                found = self._take()
+            except IndexError:
+                raise Busy("another thread uses this client") from None
+        return found
+
+    def _is_in_call(self) -> bool:
+        """Whether any thread has taken this client, and is in its call."""
+        for newest in sys._current_frames().values():
+            frame: Optional[FrameType] = newest
+            is_taking = False
+            while frame is not None:
+                if frame.f_code is _RETAKE:
+                    is_taking = "found" not in frame.f_locals
+                elif frame.f_code is not _BEGIN:
+                    if frame.f_code in _HOLDERS and not is_taking and frame.f_locals.get("self") is self:
+                        return True
+                    is_taking = False
+                frame = frame.f_back
+        return False
 
     def beyond_answer(self) -> bytes:
         """The bytes behind the answer, as `guard` set them: a call must not change them."""
@@ -145,17 +182,17 @@ class Handle:
         """The call RECV for what comes over a transport from one address to another."""
         request = bytearray(REQUEST.pack(0, RECV, 0, transport, 0, from_, to, NO_ADDRESS, NO_ADDRESS))
         time, request_at = memoryview(request).cast("Q"), memory_of(request)
-        take, give, refusal, call = self._take, self._give, self._refusal, self._call
+        take, give, call = self._take, self._give, self._call
         answer, answer_at, room_at, room_size = self._answer, self._answer_at, self._room.at, self._room.size
 
         def receive(now: int, data: Buffer) -> Tuple[int, int, int, bytes]:
             try:
                 client = take()
             except IndexError:
-                raise refusal() from None
+                client = self._retake()
             try:
                 time[0] = now
-                given = data if type(data) is bytes else _pointed(data)
+                given = data if type(data) is bytes else _copied(data)
                 size = len(given)
                 passed = _USUAL[size] if size < _MANY else _passed(size)
                 kind = call(client, request_at, given, passed, room_at, room_size, answer_at)
@@ -169,13 +206,14 @@ class Handle:
                 fail(kind)
             return kind, 0, 0, NO_ADDRESS
 
+        _HOLDERS.add(receive.__code__)
         return receive
 
     def sending(self, transport: int) -> Send:
         """The call SEND_TO for data that goes to peers over a transport."""
-        request = bytearray(REQUEST.pack(0, SEND_TO, 0, transport, 0, *_NOWHERE))
+        request = bytearray(_send_request(transport))
         time, place, request_at = memoryview(request).cast("Q"), memoryview(request)[PEER_PLACE], memory_of(request)
-        take, give, refusal, call = self._take, self._give, self._refusal, self._call
+        take, give, call = self._take, self._give, self._call
         room, room_at, room_size, answer_at = self._room.view, self._room.at, self._room.size, self._answer_at
         lengths, last_peer, last_size, last = memoryview(self._answer).cast("Q"), NO_ADDRESS, 0, room[:0]
 
@@ -184,12 +222,12 @@ class Handle:
             try:
                 client = take()
             except IndexError:
-                raise refusal() from None
+                client = self._retake()
             try:
                 time[0] = now
                 if peer is not last_peer:
                     place[:] = last_peer = peer
-                given = data if type(data) is bytes else _pointed(data)
+                given = data if type(data) is bytes else _copied(data)
                 size = len(given)
                 passed = _USUAL[size] if size < _MANY else _passed(size)
                 kind = call(client, request_at, given, passed, room_at, room_size, answer_at)
@@ -206,13 +244,14 @@ class Handle:
                 return self._send_long(now, transport, peer, data)
             return fail(kind) if kind < SMALL_BUFFER else None
 
+        _HOLDERS.add(send.__code__)
         return send
 
     def heading(self, transport: int) -> Head:
         """The call SEND_HEAD for data that goes to peers over a transport. The library does not see the data."""
         request = bytearray(REQUEST.pack(0, SEND_HEAD, 0, transport, 0, *_NOWHERE))
         time, place, request_at = memoryview(request).cast("Q"), memoryview(request)[PEER_PLACE], memory_of(request)
-        take, give, refusal, call = self._take, self._give, self._refusal, self._call
+        take, give, call = self._take, self._give, self._call
         room, room_at, room_size, answer_at = self._room.view, self._room.at, self._room.size, self._answer_at
         lengths = memoryview(self._answer).cast("Q")
 
@@ -222,7 +261,7 @@ class Handle:
             try:
                 client = take()
             except IndexError:
-                raise refusal() from None
+                client = self._retake()
             try:
                 time[0] = now
                 place[:] = peer
@@ -236,7 +275,36 @@ class Handle:
                 give(client)
             return fail(kind) if kind <= SMALL_BUFFER else None
 
+        _HOLDERS.add(head.__code__)
         return head
+
+    def sharing(self, transport: int) -> Share:
+        """The call SEND_TO for any thread, also while another one is in a call, and for a signal's handler in the midst of one. The
+        interpreter's lock, which a call of the library keeps, has one made after the other, and each has memory of its own."""
+        self._is_shared = True
+        rooms: List[_Envelope] = []
+
+        def send(now: int, peer: bytes, data: Buffer) -> Union[bytes, int]:
+            try:
+                own = rooms.pop()
+            except IndexError:
+                own = _Envelope(transport)
+            given = data if type(data) is bytes else _copied(data)
+            size = len(given)
+            if size > MAX_PACKET - MAX_OVERHEAD:
+                fail(BAD_PAYLOAD)
+            own.time[0], own.place[:] = now, peer
+            kind = self._call(self._client, own.request_at, given, _passed(size), own.room.at, own.room.size, own.answer_at)
+            if kind == PACKET:
+                found: Union[bytes, int] = own.room.view[:own.lengths[_LEN]].tobytes()
+            elif kind == REFUSED:
+                found = Answer._make(ANSWER.unpack(own.answer)).error
+            else:
+                fail(kind)
+            rooms.append(own)  # One that an interrupt keeps from here is forgotten.
+            return found
+
+        return send
 
     def _send_long(self, now: int, transport: int, peer: bytes, data: Buffer) -> Optional[bytes]:
         """The call SEND_TO for data that the buffer does not hold."""
@@ -249,6 +317,24 @@ class Handle:
             self._give(client)
 
 
+class _Envelope:
+    """A request to send, its answer, and the buffer for the packet."""
+
+    def __init__(self, transport: int) -> None:
+        request, self.answer, self.room = bytearray(_send_request(transport)), bytearray(ANSWER.size), Room(MAX_PACKET)
+        self.time, self.place = memoryview(request).cast("Q"), memoryview(request)[PEER_PLACE]
+        self.request_at, self.answer_at = memory_of(request), memory_of(self.answer)
+        self.lengths = memoryview(self.answer).cast("Q")
+
+
+def _send_request(transport: int) -> bytes:
+    return REQUEST.pack(0, SEND_TO, 0, transport, 0, *_NOWHERE)
+
+
+# The functions that have the client while they are under way, and those that take it for them.
+_HOLDERS: Set[CodeType] = {it.__code__ for it in (Handle.call, Handle.last, Handle._send_long, Handle.free)}
+_BEGIN, _RETAKE = Handle._begin.__code__, Handle._retake.__code__
+_retaking = threading.RLock()
 _NO_ANSWER, _NOWHERE = bytes(ANSWER.size), (NO_ADDRESS,) * 4
 _unpack_found = cast(Callable[[bytearray], Tuple[int, int, int, bytes]], FOUND.unpack_from)
 # Where the length of what is in the buffer stands in an answer, in steps of eight bytes, and behind it of a head the padding.
@@ -271,12 +357,9 @@ _MANY = 2_048
 _USUAL = [_passed(it) for it in range(_MANY)]
 
 
-def _pointed(data: Buffer) -> Union[bytes, ctypes.Array[ctypes.c_char]]:
-    """The memory of the caller's bytes, without a copy where they can be written to."""
-    view = memoryview(data)
-    if view.readonly or not view.c_contiguous or not view.nbytes:
-        return view.tobytes()
-    return (ctypes.c_char * view.nbytes).from_buffer(view)
+def _copied(data: Buffer) -> bytes:
+    """The caller's bytes. To have the library look at where they lie takes `ctypes` longer than this copy."""
+    return memoryview(data).tobytes()
 
 
 def _fail_time(now: int, error: Exception) -> NoReturn:
