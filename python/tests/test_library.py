@@ -1,7 +1,6 @@
 """The library through `library.py` and `client.py`: what it answers, what it refuses, and that nothing is kept."""
 import ctypes
 import gc
-import itertools
 import os
 import pathlib
 import re
@@ -20,6 +19,7 @@ from yarrowdoor import client as sans_io
 from yarrowdoor.errors import Busy, LibraryError, Refused
 
 from .replay import replay
+from .steps import Interrupted, interrupt
 
 ROOT = pathlib.Path(__file__).resolve().parent.parent.parent
 LOCAL, REMOTE = ("192.168.0.1", 1000), ("10.0.0.2", 2000)
@@ -200,8 +200,8 @@ class Ownership(unittest.TestCase):
         with self.assertRaises(ValueError):
             sends[0](("192.0.2.7", 9), bytes(70_000), 0)
         client.close()
-        use()
         self.assertEqual(within.freed, 0)
+        use()
         sends.clear()
         del client
         gc.collect()
@@ -321,36 +321,17 @@ class CallingLibrary(CountingLibrary):
         return int(self.of.call(*args))
 
 
-class Interrupted(Exception):
-    """What a signal's handler raises."""
-
-
 def interrupted(call: Callable[[], object], step: int, then: Callable[[], object]) -> bool:
     """Makes a call, which is interrupted before a step of the interpreter, does something then, while the exception is there, and
     says whether the call has so many steps."""
-    count, before = itertools.count(), sys.gettrace()
-
-    def trace(frame: Any, event: str, arg: object) -> Any:
-        if frame.f_code.co_filename != handle.__file__:
-            return None
-        frame.f_trace_opcodes = True
-        if event == "opcode" and next(count) == step:
-            raise Interrupted
-        return trace
+    def fail() -> None:
+        raise Interrupted
 
     try:
-        sys._getframe().f_trace_opcodes = True  # else Python 3.12 traces none
-        sys.settrace(trace)
-        call()
-        return False
+        return interrupt(call, step, [handle.__file__], fail)
     except Interrupted:
-        sys.settrace(before)
         then()
         return True
-    except Refused:
-        return False
-    finally:
-        sys.settrace(before)
 
 
 OTHER = """

@@ -157,14 +157,14 @@ class Coturn(unittest.TestCase):
         with server.coturn() as at:
             relay: Any = sync.TurnClient(at.uri(), "user", "pass")
             relay.open()
-            session = relay._kept
+            thread, client = relay._thread.thread, relay._client
             with self.assertWarnsRegex(ResourceWarning, "^unclosed turn:"):
                 del relay
                 gc.collect()
-            session.thread.join(1.5)  # after two seconds it ends without an answer
-            self.assertFalse(session.thread.is_alive())
+            thread.join(1.5)  # after two seconds it ends without an answer
+            self.assertFalse(thread.is_alive())
             with self.assertRaisesRegex(Ended, "^the client was closed$"):
-                session.check()
+                client.check_open()
 
     def test_grants_are_released_and_kept(self) -> None:
         with server.coturn() as at, sync.TurnClient(at.uri(), "user", "pass") as relay:
@@ -235,7 +235,7 @@ class Sockets(unittest.TestCase):
         with socket.create_server(("127.0.0.1", 0)) as listener:
             relay = sync.TurnClient(PORTS[1].format(port=listener.getsockname()[1]), "user", "pass", timeout=30)
             threading.Thread(target=self.end_stream, args=(listener,), daemon=True).start()
-            with self.assertRaisesRegex(AllocationFailed, "^the connection to the server has ended: .* the server closed the conn"):
+            with self.assertRaisesRegex(AllocationFailed, "^the connection to the server has ended: the server closed"):
                 relay.open()
 
     def end_stream(self, listener: socket.socket) -> None:
@@ -257,8 +257,9 @@ class Sockets(unittest.TestCase):
 
     def test_a_closed_port(self) -> None:
         port = server.free_port()
-        with self.assertRaisesRegex(AllocationFailed, "no connection to .*refused"):
+        with self.assertRaisesRegex(AllocationFailed, "^no connection to ") as raised:
             sync.TurnClient(PORTS[1].format(port=port), "user", "pass").open()
+        self.assertIsInstance(raised.exception.__cause__, ConnectionRefusedError)
         with self.assertRaisesRegex(AllocationFailed, "no answer"):
             sync.TurnClient(PORTS[0].format(port=port), "user", "pass", timeout=0.5).open()
         with self.assertRaisesRegex(AllocationFailed, "no connection to "):

@@ -93,6 +93,9 @@ class Link:
         """Closes the socket at once. What waits in it is dropped."""
         raise NotImplementedError
 
+    async def wait_closed(self) -> None:
+        """Waits until the socket that `close` closes is closed."""
+
 
 class DatagramLink(Link):
     """A socket over UDP, which is connected to the server. It is read and written here, and not by a transport of the event loop:
@@ -197,6 +200,7 @@ class StreamLink(Link, asyncio.Protocol):
     def __init__(self) -> None:
         super().__init__()
         self.frames: Optional[Frames] = Frames()
+        self._lost: asyncio.Future[None] = asyncio.get_running_loop().create_future()
 
     def connection_made(self, transport: Any) -> None:
         self.transport = transport
@@ -210,6 +214,7 @@ class StreamLink(Link, asyncio.Protocol):
     def connection_lost(self, exc: Optional[Exception]) -> None:
         self.is_over = True
         self.writable.set()
+        self._lost.set_result(None)
         self._user.ended(self, exc)
 
     def data_received(self, data: bytes) -> None:
@@ -236,6 +241,9 @@ class StreamLink(Link, asyncio.Protocol):
         self.is_over = True
         self.writable.set()
         self.transport.abort()
+
+    async def wait_closed(self) -> None:
+        await asyncio.wait([self._lost])
 
 
 def _notice_silence(transport: Any) -> None:

@@ -28,6 +28,11 @@ __all__ = ["Lost", "TurnClient"]
 MAX_MESSAGE = 65_507
 
 
+def size_of(data: Buffer) -> int:
+    """How many bytes data has: a memoryview may have items of several."""
+    return len(data) if type(data) is bytes else memoryview(data).nbytes
+
+
 class TurnClient(Told, Lifetime):
     """A relayed address of a TURN server.
 
@@ -256,7 +261,7 @@ class TurnClient(Told, Lifetime):
             self._notices.unsent += 1
             return
         session.counters.packets_out += 1
-        session.counters.bytes_out += len(data)
+        session.counters.bytes_out += size_of(data)
         if session.idle is not None:
             session.idle.use(checked_peer(peer))
 

@@ -10,7 +10,7 @@ from typing import Any, Dict, Optional, Sequence, Union
 
 from .address import SocketAddress, of_socket
 
-__all__ = ["SilentHandshake", "Tap", "Where", "Wire", "connect_stream", "connect_udp", "notice_silence"]
+__all__ = ["SilentHandshake", "Tap", "Where", "Wire", "connect_stream", "connect_udp", "notice_silence", "writable"]
 
 # More than any datagram has, and any message of TURN.
 _MOST = 70_000
@@ -91,7 +91,7 @@ class Wire:
                 rest = rest[self._socket.send(rest):]
             except (BlockingIOError, tls.SSLWantWriteError, tls.SSLWantReadError):
                 if time.monotonic() < deadline:
-                    select.select([], [self._socket], [], 0.05)
+                    writable(self._socket, 0.05)
                 elif self.is_stream:
                     raise TimeoutError("the server reads nothing of the connection any more") from None
                 else:
@@ -159,3 +159,13 @@ def notice_silence(sock: socket.socket) -> None:
     with contextlib.suppress(OSError):
         for level, name, value in options:
             sock.setsockopt(level, name, value)
+
+
+def writable(sock: socket.socket, seconds: float) -> None:
+    """Waits until a socket takes more, or for so many seconds. Its number may be any, unlike those that `select.select` takes."""
+    waiting = select.poll()
+    try:
+        waiting.register(sock, select.POLLOUT)
+    except ValueError:
+        return  # it was closed
+    waiting.poll(seconds * 1000)

@@ -1,0 +1,168 @@
+"""Signals and forks in a program that uses a client without asyncio: nothing hangs, and all is given back."""
+import json
+import os
+import threading
+import time
+import unittest
+from typing import Any, Callable, Dict, List
+
+from yarrowdoor import Ended, Refused, handle, loop_thread, sync, threads
+
+from .server import Server
+from .steps import interrupt, interrupted
+from .threaded import Threaded
+
+PEER = ("10.1.0.1", 9)
+FILES = [str(it.__file__) for it in (handle, loop_thread, sync, threads)]
+# Only each so many-th step of a call is interrupted by a handler that closes, since each needs another client.
+STRIDE = 7
+CALLS: Dict[str, Callable[[sync.TurnClient], object]] = {
+    "sendto": lambda relay: relay.sendto(b"x", PEER),
+    "send to a new peer": lambda relay: relay.send(b"x", ("10.1.0.2", 9)),
+    "permit": lambda relay: relay.permit("10.1.0.3"),
+    "release": lambda relay: relay.release(PEER[0]),
+    "receive": lambda relay: relay.receive(timeout=0.02),
+}
+
+
+class Signals(unittest.TestCase):
+    def setUp(self) -> None:
+        self.endpoint = Threaded(Server())
+        self.endpoint.__enter__()
+        self.addCleanup(self.endpoint.__exit__, None, None, None)
+
+    def relay(self) -> sync.TurnClient:
+        relay = sync.TurnClient(self.endpoint.uri, "user", "pass", timeout=10)
+        relay.open()
+        relay.permit(PEER[0])
+        return relay
+
+    def check_given_back(self, relay: sync.TurnClient, since: float) -> None:
+        self.assertLess(time.monotonic() - since, 1.5)
+        self.assertTrue(relay.closed)
+        self.assertEqual(self.endpoint.server.allocations, {})
+        with self.assertRaises(Ended):
+            relay.sendto(b"x", PEER)
+
+    def test_a_handler_that_closes(self) -> None:
+        for name, call in CALLS.items():
+            step, has_run = 0, True
+            while has_run:
+                relay = self.relay()
+                start = time.monotonic()
+                with self.subTest(call=name, step=step):
+                    has_run = interrupt(lambda: call(relay), step, FILES, relay.close)
+                    relay.close()
+                    self.check_given_back(relay, start)
+                step += STRIDE
+            self.assertGreater(step, 50)
+
+    def test_a_handler_that_raises(self) -> None:
+        for name, call in CALLS.items():
+            step, has_run = 0, True
+            while has_run:
+                relay = self.relay()
+                start = time.monotonic()
+                with self.subTest(call=name, step=step):
+                    has_run = interrupted(lambda: call(relay), step, FILES)
+                    relay.sendto(b"x", PEER)
+                    relay.check()
+                    relay.close()
+                    self.check_given_back(relay, start)
+                step += STRIDE
+            self.assertGreater(step, 50)
+
+    def test_opening_that_is_interrupted(self) -> None:
+        step = 0
+        while True:
+            relay = sync.TurnClient(self.endpoint.uri, "user", "pass", timeout=10)
+            start = time.monotonic()
+            has_run = interrupted(relay.open, step, FILES)
+            relay.close()
+            with self.subTest(step=step):
+                while self.endpoint.server.allocations and time.monotonic() < start + 1.5:
+                    time.sleep(0.001)
+                self.assertEqual(self.endpoint.server.allocations, {})
+            if not has_run:
+                break
+            step += STRIDE
+        start = time.monotonic()
+        while any(it.name == "yarrowdoor" for it in threading.enumerate()):
+            self.assertLess(time.monotonic() - start, 5)
+            time.sleep(0.01)
+
+    def test_each_thread_that_waits_learns_of_the_end(self) -> None:
+        """One of them is interrupted when it has learned of it."""
+        relay = self.relay()
+        ended: List[str] = []
+
+        def wait() -> None:
+            try:
+                relay.receive()
+            except Ended as error:
+                ended.append(str(error))
+
+        waiting = [threading.Thread(target=wait, daemon=True) for _ in range(2)]
+        for thread in waiting:
+            thread.start()
+        relay.close()
+        for step in range(0, 200, 3):
+            interrupted(relay.receive, step, FILES)
+        for thread in waiting:
+            thread.join(12)
+        self.assertEqual(ended, ["the client was closed"] * 2)
+
+
+class Forks(unittest.TestCase):
+    def test_the_child_is_told(self) -> None:
+        """And the parent's client goes on, also when the child closes it."""
+        with Threaded(Server()) as endpoint, sync.TurnClient(endpoint.uri, "user", "pass") as relay:
+            relay.permit(PEER[0])
+            found = in_a_child(lambda: told(relay))
+            self.assertEqual(found, [[*CALLS], True])
+            relay.permit("10.1.0.4")
+            relay.check()
+            self.assertEqual((relay.closed, len(endpoint.server.allocations)), (False, 1))
+
+
+def told(relay: sync.TurnClient) -> object:
+    """Which calls say that the client is of another process, and whether it is closed. It is closed then."""
+    found = [name for name, call in CALLS.items() if is_told(call, relay)], relay.closed
+    relay.close()
+    return found
+
+
+def is_told(call: Callable[[sync.TurnClient], object], relay: sync.TurnClient) -> bool:
+    """Whether a call says that the client is of another process."""
+    try:
+        call(relay)
+    except Ended as error:
+        return "forked" in str(error)
+    except (Refused, TimeoutError):
+        pass
+    return False
+
+
+def in_a_child(work: Callable[[], object]) -> Any:
+    """What a function gives in a fork of this process. `TimeoutError` where it takes too long."""
+    reading, writing = os.pipe()
+    child = os.fork()
+    if not child:
+        try:
+            os.write(writing, json.dumps(work()).encode())
+        finally:
+            os._exit(0)
+    os.close(writing)
+    killer = threading.Timer(10, os.kill, (child, 9))
+    killer.start()
+    with open(reading, "rb") as answer:
+        found = answer.read()
+    killer.cancel()
+    os.waitpid(child, 0)
+    if not found:
+        raise TimeoutError("the child says nothing")
+    return json.loads(found)
+
+
+if __name__ == "__main__":
+    unittest.main()
