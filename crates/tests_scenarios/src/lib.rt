@@ -26,6 +26,8 @@ mod fixture;
 #[cfg(test)]
 mod gathered;
 #[cfg(test)]
+mod given_up;
+#[cfg(test)]
 mod looped;
 #[cfg(test)]
 mod memory;

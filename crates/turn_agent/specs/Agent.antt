@@ -1,6 +1,6 @@
 -- The requests of an agent that await their responses (RFC 8489, section 6).
 use Rattle.std.specs.Prelude.{◌≡◌, ℕ, ◌+◌, ◌-◌, ◌^◌, ◌<◌, min, nat_le, nat_lt, not, ◌==◌, ◌&&◌, ◌||◌, if◌then◌else◌, Bool, true, false, List, [], ◌∷◌, ◌++◌}
-use Rattle.std.specs.Prelude.{length, map, filter, find, fold, Option, Some, None, slice_get, ◌≤◌, IsSome}
+use Rattle.std.specs.Prelude.{length, map, filter, find, fold, Option, Some, None, option_map, slice_get, ◌≤◌, IsSome}
 use Rattle.std.specs.List.{list_any}
 use Rattle.std.specs.Cmp.Lexicographic.{pointwise}
 use Rattle.std.specs.declared.net.socket_addr.SocketAddr.{SocketAddr}
@@ -53,6 +53,10 @@ is_timed_out timers transport now t =
 -- whether a request with this ID awaits its response
 abbrev pub is_outstanding : ℕ → List Transaction → Bool
 is_outstanding id transactions = list_any (λ t. t.id == id) transactions
+
+-- how often the request with this ID was retransmitted, if it awaits its response
+abbrev pub resends_made : ℕ → List Transaction → Option ℕ
+resends_made id transactions = option_map (λ t. t.resends) (find (λ t. t.id == id) transactions)
 
 -- no two have the same ID
 abbrev pub AreDistinct : List Transaction → Type 0

@@ -4,14 +4,16 @@ ghost use Rattle.std.specs.Prelude.{◌≡◌, ◌<◌, ◌==◌, false, [], Non
 ghost use Rattle.turn_stun.specs.Message.{type_of, id_of};
 ghost use Rattle.turn_stun.specs.MessageType.{class_of, IsResponse};
 ghost use Rattle.turn_agent.specs.Schedule.{wait_of, default_timers};
-ghost use Rattle.turn_agent.specs.Agent.{Agent, is_outstanding, request_sent, due, answers, agent_poll_step, agent_transmit_step, handle_step, IsEnded};
+ghost use Rattle.turn_agent.specs.Agent.{Agent, is_outstanding, resends_made, request_sent, due, answers, agent_poll_step, agent_transmit_step, handle_step, IsEnded};
 ghost use Rattle.turn_agent.specs.Agent.{IsSilentUntil, HasRequestDue, IsQuietUntil, earliest, transaction_removed};
 ghost use Rattle.std.specs.List.{position};
 
 use crate::front::{Front, first_due};
 use crate::ids::{FEW, add_id, remove_id, reserve_one};
 use crate::schedule::{RequestTimers, Schedule};
-use crate::search::{Progress, answered, has_id, least_with, place_of, progress_of, soonest_of};
+use crate::search::{
+    Progress, answered, has_id, least_with, place_of, progress_of, resends_made, soonest_of,
+};
 use crate::transaction::Transaction;
 use std::alloc::{AllocError, Global};
 use std::collections::HashSet;
@@ -215,6 +217,13 @@ impl StunAgent {
         self.ids.contains(&id)
     }
 
+    /// How often the request with this ID was retransmitted, or `None` if it does not await its response.
+    pub fn resends(&self, id: TransactionId) -> Option<u32>
+        ensures { result ≡ resends_made id self.now.transactions }
+    {
+        resends_made(&self.transactions, id)
+    }
+
     /// How many requests await their responses.
     pub fn outstanding(&self) -> usize
         ensures { result ≡ length self.now.transactions }
@@ -310,6 +319,16 @@ impl StunAgent {
             }
             None => false,
         }
+    }
+
+    /// Ends all transactions: nothing is retransmitted, and nothing is accepted as a response.
+    pub fn end_all(&mut self)
+        ensures { self.new ≡ record self.old { transactions = [] } }
+    {
+        self.transactions = Vec::new(self.alloc);
+        self.ids = HashSet::new(self.alloc);
+        self.front = Front::none();
+        self.soonest = None;
     }
 
     /// Times out one request, or returns the next deadline.

@@ -2,7 +2,7 @@
 
 ghost use Rattle.std.specs.Prelude.{◌≡◌, ◌==◌, fold, map, min};
 ghost use Rattle.std.specs.List.{position};
-ghost use Rattle.turn_agent.specs.Agent.{answers, is_outstanding, transaction_timeout, IsProgress, IsSoonest};
+ghost use Rattle.turn_agent.specs.Agent.{answers, is_outstanding, resends_made, transaction_timeout, IsProgress, IsSoonest};
 
 use crate::schedule::Schedule;
 use crate::transaction::Transaction;
@@ -25,6 +25,16 @@ pub(crate) fn has_id(transactions: &[Transaction], id: TransactionId) -> bool
     ensures { result ≡ is_outstanding id transactions.now }
 {
     transactions.iter().any(|transaction| transaction.id == id)
+}
+
+/// How often the request with this ID was retransmitted, if one of the transactions has it.
+pub(crate) fn resends_made(transactions: &[Transaction], id: TransactionId) -> Option<u32>
+    ensures { result ≡ resends_made id transactions.now }
+{
+    transactions
+        .iter()
+        .find(|transaction| transaction.id == id)
+        .map(|transaction| transaction.resends)
 }
 
 /// The place of the transaction with this ID.

@@ -16,7 +16,7 @@ use turn_types::AddressFamily;
 #[derive(Clone, Copy, Debug, PartialEq, Eq)]
 #[repr(C)]
 pub struct Settings {
-    /// The wait after a request is first sent, in nanoseconds, if `has_waits` says so.
+    /// How long after a request is made it is sent again, in nanoseconds, if `has_waits` says so.
     pub wait_initial: u64,
     /// The longest wait before a request is sent again, in nanoseconds.
     pub wait_max: u64,

@@ -1,3 +1,4 @@
+pub mod Abandon
 pub mod Addresses
 pub mod Alarm
 pub mod Answers
@@ -17,6 +18,7 @@ pub mod Poll
 pub mod Range
 pub mod Receive
 pub mod Requests
+pub mod RequestViews
 pub mod Retry
 pub mod SameConfig
 pub mod SameConfigLaws

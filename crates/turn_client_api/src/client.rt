@@ -3,7 +3,8 @@
 ghost use Rattle.std.specs.Prelude.{◌≡◌, ◌≤◌, ◌^◌, ℕ, true, All, IsNone, None, length, option_map, IfErr, IfOk, OnOk, OnErr, IsOk, IsSome};
 ghost use Rattle.turn_stun.specs.declared.transport.TransportType.{TransportType};
 ghost use Rattle.turn_stun.specs.declared.transport.TransportType.TheVariants.{Udp};
-ghost use Rattle.turn_client_api.specs.State.{State, Requesting};
+ghost use Rattle.turn_client_api.specs.State.{State, Allocated, Requesting};
+ghost use Rattle.turn_client_api.specs.Abandon.{abandon_step};
 ghost use Rattle.turn_client_api.specs.Addresses.{relayed_left, permitted_left};
 ghost use Rattle.turn_client_api.specs.Effect.{closed};
 ghost use Rattle.turn_client_api.specs.Calls.{allocated_tcp_socket_step, bind_channel_step, create_permission_step, delete_step, can_send_to, permissions_of};
@@ -14,6 +15,7 @@ ghost use Rattle.turn_client_api.specs.Streams.{HoldsLittle, poll_recv_step};
 ghost use Rattle.turn_client_api.specs.Poll.{poll_step};
 ghost use Rattle.turn_client_api.specs.Transmit.{next_transmit, transmit_step};
 ghost use Rattle.turn_client_api.specs.Alarm.{IsTimely};
+ghost use Rattle.turn_client_api.specs.RequestViews.{queued_request_count, viewed_request};
 ghost use Rattle.turn_client_api.specs.Answers.{BindsChannel, Connects, CreatesPermission, Deletes, EndsAfterSteps, HandsBack, IsNoWay, IsSent, RecvEnds};
 ghost use Rattle.turn_client_api.specs.Answers.{TakesSocket, event_step, given_payload, outcome_of, takes_no_memory};
 
@@ -25,6 +27,7 @@ use crate::error::{
 use crate::event::TurnEvent;
 use crate::poll::{Socket5Tuple, TurnPollRet};
 use crate::receive::{TurnPeerData, TurnRecvRet};
+use crate::request::RequestView;
 use crate::send::DelayedMessageOrChannelSend;
 use std::alloc::AllocError;
 use std::convert::AsSlice;
@@ -32,6 +35,7 @@ use std::fmt::Debug;
 use std::net::{IpAddr, SocketAddr};
 use turn_stun::data::Data;
 use turn_stun::instant::Instant;
+use turn_stun::transaction::TransactionId;
 use turn_stun::transport::{Transmit, TransportType};
 use turn_types::transmit::TransmitBuild;
 
@@ -94,6 +98,17 @@ pub trait TurnClientApi: Debug + Drop {
     ) -> PermissionAddressesIter<'_>
         ensures { permitted_left result ≡ permissions_of transport relayed (state self.now) };
 
+    /// What the client knows of its request with this transaction ID, so that a caller can tell which of
+    /// its requests a response answers before it passes the response to `recv` (RFC 8489, section 6.3).
+    /// A request that was made again after a challenge is known by both IDs. Allocates no memory.
+    fn request_of(&self, id: TransactionId) -> RequestView
+        ensures { result ≡ viewed_request id (state self.now) };
+
+    /// How many requests wait in the queue to be sent for the first time: `poll_transmit` returns one
+    /// of them each time the pause between two requests has passed. Allocates no memory.
+    fn queued_requests(&self) -> usize
+        ensures { result ≡ queued_request_count (state self.now) };
+
     /// Deletes all allocations: queues a REFRESH with lifetime 0 (RFC 8656, section 8.1).
     /// Permissions and channels are removed at once. Pending grants may still be granted.
     ///
@@ -104,6 +119,22 @@ pub trait TurnClientApi: Debug + Drop {
     fn delete(&mut self, now: Instant) -> Result<(), DeleteError>
         requires now_in_range { now ≤ 2 ^ 62 }
         ensures step { Deletes result (state self.old) (state self.new) (delete_step now (state self.old)) };
+
+    /// Gives the client up, for a caller that closes its socket at once: returns the REFRESH with lifetime
+    /// 0 that deletes all allocations (RFC 8656, section 8.1), or none if the server has granted no
+    /// allocation or the client has ended. Unlike that of `delete` it waits neither for the pause nor for
+    /// what is queued, and nobody awaits its response, so it is sent once. The client has ended then: it
+    /// holds no grant and has nothing left to send. Events that are queued can still be polled.
+    ///
+    /// # Errors
+    ///
+    /// If memory allocation fails, which only a client with allocations can meet. Nothing changes then.
+    fn abandon(&mut self, now: Instant) -> Result<Option<Transmit<Data>>, AllocError>
+        requires now_in_range { now ≤ 2 ^ 62 }
+        ensures answer { IfOk result (λ packet. packet ≡ (abandon_step now (state self.old)).0) }
+        ensures after { OnOk result (state self.new ≡ (abandon_step now (state self.old)).1) }
+        ensures no_memory { OnErr result (state self.new ≡ state self.old) }
+        ensures free { OnErr result ((state self.old).phase ≡ Allocated) };
 
     /// Requests a permission for the IP address of this peer, whatever the port: queues a
     /// CREATE_PERMISSION (RFC 8656, section 10.1). `poll_event` reports the result.

@@ -12,6 +12,7 @@ use crate::error::{
 use crate::event::TurnEvent;
 use crate::poll::{Socket5Tuple, TurnPollRet};
 use crate::receive::{TurnPeerData, TurnRecvRet};
+use crate::request::RequestView;
 use crate::send::DelayedMessageOrChannelSend;
 use std::alloc::AllocError;
 use std::convert::AsSlice;
@@ -19,6 +20,7 @@ use std::fmt::Debug;
 use std::net::{IpAddr, SocketAddr};
 use turn_stun::data::Data;
 use turn_stun::instant::Instant;
+use turn_stun::transaction::TransactionId;
 use turn_stun::transport::{Transmit, TransportType};
 use turn_types::AddressFamily;
 use turn_types::transmit::TransmitBuild;
@@ -60,8 +62,20 @@ impl TurnClientApi for ClosedClient {
         PermissionAddressesIter::new(AddressFamily::IPV4, &[])
     }
 
+    fn request_of(&self, _id: TransactionId) -> RequestView {
+        RequestView::none()
+    }
+
+    fn queued_requests(&self) -> usize {
+        0
+    }
+
     fn delete(&mut self, _now: Instant) -> Result<(), DeleteError> {
         Err(DeleteError::NoAllocation)
+    }
+
+    fn abandon(&mut self, _now: Instant) -> Result<Option<Transmit<Data>>, AllocError> {
+        Ok(None)
     }
 
     fn create_permission(

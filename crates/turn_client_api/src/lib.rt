@@ -60,6 +60,7 @@ mod event;
 mod grant;
 mod poll;
 mod receive;
+mod request;
 mod send;
 mod state;
 
@@ -77,6 +78,7 @@ pub use grant::{
 };
 pub use poll::{Socket5Tuple, TurnPollRet};
 pub use receive::{DataRange, DataRangeOrOwned, TurnPeerData, TurnRecvRet};
+pub use request::RequestView;
 pub use send::{DelayedMessageOrChannelSend, DelayedTransmit};
 pub use state::{Mode, Phase, Queued, Stream};
 pub use turn_agent::schedule::RequestTimers;

@@ -158,6 +158,14 @@ impl Outbox {
         let _was_outstanding = self.agent.end(id);
     }
 
+    /// Drops all requests and all queued packets: nothing is left to send.
+    pub(crate) fn end_all(&mut self)
+        ensures { self.new ≡ record self.old { transactions = []; queue = []; room = self.new.room } }
+    {
+        self.agent.end_all();
+        self.queue.clear();
+    }
+
     /// Takes the next ID of the seed.
     pub(crate) fn draw(&mut self)
         ensures { self.new ≡ outbox_id_used self.old }

@@ -1,3 +1,4 @@
+pub mod AbandonLemmas
 pub mod CallLemmas
 pub mod CarrierLemmas
 pub mod ControlLemmas

@@ -7,7 +7,7 @@
 pub use turn_client_api::{
     BindChannelError, CreatePermissionError, Data, DataRange, DataRangeOrOwned,
     DelayedMessageOrChannelSend, DelayedTransmit, DeleteError, KeepError, PermissionAddressesIter,
-    RelayedAddressesIter, RequestTimers, SendError, Socket5Tuple, TcpAllocateError,
+    RelayedAddressesIter, RequestTimers, RequestView, SendError, Socket5Tuple, TcpAllocateError,
     TcpConnectError, Transmit, TransmitBuild, TurnClientApi, TurnConfig, TurnEvent, TurnPeerData,
     TurnPollRet, TurnRecvRet,
 };

@@ -18,11 +18,12 @@ pub use turn_client_api::{
     TcpConnectError, TurnEvent, TurnPollRet, TurnRecvRet,
 };
 use turn_client_api::{
-    DelayedMessageOrChannelSend, PermissionAddressesIter, RelayedAddressesIter, Socket5Tuple,
-    TransmitBuild, TurnClientApi, TurnConfig, TurnPeerData,
+    DelayedMessageOrChannelSend, PermissionAddressesIter, RelayedAddressesIter, RequestView,
+    Socket5Tuple, TransmitBuild, TurnClientApi, TurnConfig, TurnPeerData,
 };
 use turn_stun::data::Data;
 use turn_stun::instant::Instant;
+use turn_stun::transaction::TransactionId;
 use turn_stun::transport::{Transmit, TransportType};
 
 /// A client over UDP or TCP.
@@ -162,10 +163,31 @@ impl TurnClientApi for TurnClient {
         }
     }
 
+    fn request_of(&self, id: TransactionId) -> RequestView {
+        match self {
+            TurnClient::Udp(client) => client.request_of(id),
+            TurnClient::Tcp(client) => client.request_of(id),
+        }
+    }
+
+    fn queued_requests(&self) -> usize {
+        match self {
+            TurnClient::Udp(client) => client.queued_requests(),
+            TurnClient::Tcp(client) => client.queued_requests(),
+        }
+    }
+
     fn delete(&mut self, now: Instant) -> Result<(), DeleteError> {
         match self {
             TurnClient::Udp(client) => client.delete(now),
             TurnClient::Tcp(client) => client.delete(now),
+        }
+    }
+
+    fn abandon(&mut self, now: Instant) -> Result<Option<Transmit<Data>>, AllocError> {
+        match self {
+            TurnClient::Udp(client) => client.abandon(now),
+            TurnClient::Tcp(client) => client.abandon(now),
         }
     }
 

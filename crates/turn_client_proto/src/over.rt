@@ -11,13 +11,14 @@ use std::marker::Model;
 use std::net::{IpAddr, SocketAddr};
 use turn_client_api::{
     BindChannelError, CreatePermissionError, DelayedMessageOrChannelSend, DeleteError, KeepError,
-    PermissionAddressesIter, RelayedAddressesIter, SendError, Socket5Tuple, TcpAllocateError,
-    TcpConnectError, TransmitBuild, TurnClientApi, TurnEvent, TurnPeerData, TurnPollRet,
-    TurnRecvRet,
+    PermissionAddressesIter, RelayedAddressesIter, RequestView, SendError, Socket5Tuple,
+    TcpAllocateError, TcpConnectError, TransmitBuild, TurnClientApi, TurnEvent, TurnPeerData,
+    TurnPollRet, TurnRecvRet,
 };
 use turn_client_tcp::Carrier;
 use turn_stun::data::Data;
 use turn_stun::instant::Instant;
+use turn_stun::transaction::TransactionId;
 use turn_stun::transport::{Transmit, TransportType};
 
 /// A client that reaches its server by this carrier: [`TurnClientUdp`](crate::udp::TurnClientUdp) or
@@ -65,8 +66,20 @@ impl<C: Carrier> TurnClientApi for TurnClientOver<C> {
         self.carrier.control().permissions(transport, relayed)
     }
 
+    fn request_of(&self, id: TransactionId) -> RequestView {
+        self.carrier.control().request_of(id)
+    }
+
+    fn queued_requests(&self) -> usize {
+        self.carrier.control().queued_requests()
+    }
+
     fn delete(&mut self, now: Instant) -> Result<(), DeleteError> {
         self.carrier.control_mut().delete(now)
+    }
+
+    fn abandon(&mut self, now: Instant) -> Result<Option<Transmit<Data>>, AllocError> {
+        self.carrier.control_mut().abandon(now)
     }
 
     fn create_permission(

@@ -1,5 +1,5 @@
 -- The number of queued replies.
-use Rattle.turn_client_laws.proofs.Common.{◌≡◌, ℕ, zero, suc, ◌+◌, ◌<◌, ◌≤◌, Bool, true, false, ltb, List, [], ◌∷◌, None, Some, length, get_or, ap, refl, sym, ◌∙◌, arith, lt-ltb, le-ltb, ltb-false}
+use Rattle.turn_client_laws.proofs.Common.{◌≡◌, ℕ, zero, suc, ◌+◌, ◌-◌, ◌<◌, ◌≤◌, Bool, true, false, ltb, List, [], ◌∷◌, None, Some, length, get_or, ap, refl, sym, ◌∙◌, arith, lt-ltb, le-ltb, ltb-false}
 use Rattle.turn_client_laws.proofs.Common.{not-true, list_any, position, remove, filter, is_some, not}
 use Rattle.turn_client_laws.proofs.Machine.{find-passes, position-IsFirst, position-none, Queued}
 use Rattle.std.proofs.lemmas.List.Filters.{length-filter_both}
@@ -28,6 +28,10 @@ pub request-counted : (queue : List Queued) → list_any (λ q. q.is_request) qu
 request-counted queue =
     any-counted (λ q. q.is_request) queue
     ∙ positive_part _ (reply_count queue) (length queue) (length-filter_both (λ q. q.is_request) (λ q. not q.is_request) (λ q. refl) queue)
+
+-- those that are no replies
+pub requests-counted : (queue : List Queued) → length (filter (λ q. q.is_request) queue) ≡ length queue - reply_count queue
+requests-counted queue = omega (arith, length-filter_both (λ q. q.is_request) (λ q. not q.is_request) (λ q. refl) queue)
 
 -- there are no more replies than packets
 pub reply_count-le : (queue : List Queued) → reply_count queue ≤ length queue

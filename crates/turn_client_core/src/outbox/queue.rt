@@ -1,6 +1,6 @@
 //! The queued packets.
 
-ghost use Rattle.std.specs.Prelude.{◌≡◌, ◌≤◌, ◌<◌, ◌+◌, ◌-◌, ◌++◌, ◌∷◌, [], drop, filter_map, not, slice_get, IfSome, OnOk};
+ghost use Rattle.std.specs.Prelude.{◌≡◌, ◌≤◌, ◌<◌, ◌+◌, ◌-◌, ◌++◌, ◌∷◌, [], drop, filter, filter_map, length, not, slice_get, IfSome, OnOk};
 ghost use Rattle.std.specs.List.{list_any, position};
 ghost use Rattle.std.specs.VecDeque.{deque_len};
 ghost use Rattle.turn_client_api.specs.Transmit.{reply_in, without_first_reply};
@@ -86,6 +86,21 @@ impl Queue {
         ensures { result ≡ list_any (λ q. q.is_request) self.now.items }
     {
         self.replies < self.packets.len()
+    }
+
+    /// How many requests are queued.
+    pub(crate) fn requests(&self) -> usize
+        ensures { result ≡ length (filter (λ q. q.is_request) self.now.items) }
+    {
+        self.packets.len() - self.replies
+    }
+
+    /// Removes all packets.
+    pub(crate) fn clear(&mut self)
+        ensures { self.new.items ≡ [] }
+    {
+        self.packets.clear();
+        self.replies = 0;
     }
 
     /// Removes and returns the first packet.

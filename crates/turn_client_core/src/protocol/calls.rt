@@ -3,6 +3,7 @@
 //! Each call tests its errors in one order, allocation failure last (our choice), so that a caller can
 //! conclude what an error rules out.
 
+mod abandon;
 mod allocation;
 mod bind_channel;
 mod create_permission;

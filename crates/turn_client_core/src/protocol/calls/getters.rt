@@ -6,10 +6,12 @@ ghost use Rattle.turn_client_api.specs.Addresses.{permitted_left, relayed_left};
 ghost use Rattle.turn_client_api.specs.Calls.{can_send_to, permissions_of, relayed_addresses_of};
 ghost use Rattle.turn_client_api.specs.Connections.{is_connected, is_connecting};
 ghost use Rattle.turn_client_api.specs.Grants.{channel_peer, first_in, has_active_permission};
+ghost use Rattle.turn_client_api.specs.RequestViews.{queued_request_count, viewed_request};
 
 use crate::protocol::TurnClientProtocol;
 use std::net::{IpAddr, SocketAddr};
-use turn_client_api::{PermissionAddressesIter, RelayedAddressesIter};
+use turn_client_api::{PermissionAddressesIter, RelayedAddressesIter, RequestView};
+use turn_stun::transaction::TransactionId;
 use turn_stun::transport::TransportType;
 
 impl TurnClientProtocol {
@@ -32,6 +34,22 @@ impl TurnClientProtocol {
         ensures { result ≡ self.now.remote }
     {
         self.outbox.remote_addr()
+    }
+
+    /// What it knows of its request with this transaction ID.
+    pub fn request_of(&self, id: TransactionId) -> RequestView
+        ensures { result ≡ viewed_request id self.now }
+    {
+        let purposes = self.ledger.table().purposes_of(id);
+        let resends = self.outbox.agent().resends(id);
+        RequestView::new(purposes.first, purposes.second, resends)
+    }
+
+    /// How many requests wait to be sent for the first time.
+    pub fn queued_requests(&self) -> usize
+        ensures { result ≡ queued_request_count self.now }
+    {
+        self.outbox.queue().requests()
     }
 
     /// The transport over which its allocations relay.
