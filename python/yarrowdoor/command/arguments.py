@@ -56,9 +56,9 @@ def _check(command: argparse.ArgumentParser) -> None:
     command.add_argument("--nonce", type=_seconds, default=0.0, metavar="S", help="also watch for S seconds how old a nonce gets")
     command.add_argument("--quota", type=_count, default=0, metavar="N", help="also ask for N relayed addresses at one time")
     command.add_argument("--peer", type=_address, metavar="IP:PORT", help="a peer that sends back what it is sent (this host)")
-    command.add_argument("--security", action="store_true", help="also try which networks clients may send to; nothing is sent")
+    command.add_argument("--security", action="store_true", help="also try which networks clients may send to")
     command.add_argument("--max-loss", type=_percent, default=1.0, metavar="P",
-                         help="percent of packets that may be lost at each crossing to the server (1)")
+                         help="percent of packets lost at each crossing that pass (1)")
 
 
 def _echo(command: argparse.ArgumentParser) -> None:

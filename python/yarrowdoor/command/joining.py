@@ -138,7 +138,7 @@ class Joining:
             said = self._first.answer_to(reasons.CREATE_PERMISSION, self._outside.host)
             return untried_step(f"the server refuses this host ({self._outside.host}) as a peer: {said or 'no answer'}",
                                 "It forbids this host's network, as it should where that is the server's own and has private "
-                                "addresses. Run this check from elsewhere, or name a peer (--peer).")
+                                "addresses. Run this check from elsewhere, or name a peer (--peer).", said)
         own = [self._first] if self._second.address is None else [self._first, self._second]
         return self._outside.finish([*own, *self._beside])
 

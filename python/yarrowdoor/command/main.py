@@ -63,9 +63,9 @@ def _check(options: argparse.Namespace, plan: Plan, tap: Tap) -> int:
         check(plan, output, tap)
     except KeyboardInterrupt:
         return output.fail("interrupted", _INTERRUPTED) if options.json else _INTERRUPTED
-    except BrokenPipeError:
-        raise
     except (CaptureError, LibraryError, OSError, ValueError, YarrowdoorError) as error:
+        if isinstance(error, BrokenPipeError):
+            raise  # Nobody reads the output any more.
         return output.fail(str(error), _CANNOT)
     return output.end()
 

@@ -16,7 +16,7 @@ from ..address import Address
 from ..driver import drive
 from ..errors import Ended, Refused
 from . import advice
-from .exchange import Exchange
+from .exchange import Exchange, Said
 from .relays import facts_of, is_judged
 from .steps import Facts, Outcome, Step
 
@@ -52,9 +52,9 @@ def hosts_of_peer(exchange: Exchange, relayed: Address) -> List[str]:
     return [mapped]
 
 
-def untried_step(why: str, advised: str) -> Step:
-    """The step where it cannot be tried."""
-    return Step("outside", Outcome.NOTE, f"not tried: {why}", 0.0, advised)
+def untried_step(why: str, advised: str, said: Optional[Said] = None) -> Step:
+    """The step where it cannot be tried, maybe since the server has said so."""
+    return Step("outside", Outcome.NOTE, f"not tried: {why}", 0.0, advised, facts_of(said))
 
 
 class Outside:
@@ -153,7 +153,8 @@ class Outside:
             return (f"No packet of a peer outside gets to the relayed address {self._relayed}: a firewall at the server or before "
                     f"it "
                     "lets in the port of TURN and not the relay ports, or a NAT or container forwards only that port. Open and "
-                    f"forward the relay ports over UDP (coturn: 49152-65535, or min-port= to max-port=){alone}.")
+                    f"forward the relay ports over UDP (coturn: 49152-65535, or min-port= to max-port=){alone}. If this host's own "
+                    "network lets UDP out to few ports only, check from another one.")
         if not self._outward:
             return (f"Peers outside reach the relayed address {self._relayed}, and what it sends to them does not arrive: a "
                     f"firewall at "
