@@ -13,6 +13,8 @@ import time
 from dataclasses import dataclass, field
 from typing import Any, Dict, Iterator, List, Optional, Sequence, Tuple
 
+from .turn_servers import limit
+
 TOP = pathlib.Path(__file__).resolve().parent.parent
 # A client at 45.10.0.2, a router, in `rtr`, and in `srv` a server at 45.20.0.2, 45.20.0.3 and 10.1.0.2, all with IPv6.
 SETUP = """
@@ -276,6 +278,8 @@ def main(name: str, room: str, certs: str) -> None:
     kept = {it: value for it, value in os.environ.items() if not it.startswith("YARROWDOOR_") or it == "YARROWDOOR_LIB"}
     with _running(situation, room, certs):
         words = [sys.executable, "-m", "yarrowdoor", "check", *situation.words.format(certs=certs).split(), "--json"]
+        # A machine that does much else answers later, where it answers.
+        words += ["--timeout", str(min(4.0, limit(1.5)))] if not situation.odd else []
         begun = time.monotonic()
         ran = subprocess.run(_inside("srv" if situation.is_own else "", words), env={**kept, **situation.env}, cwd=TOP,
                              stdout=subprocess.PIPE, stderr=subprocess.PIPE, text=True, timeout=120)

@@ -30,7 +30,7 @@ _LONG_SIZES, _ROUND = (24000, 32000, 64000), 12
 # and back to the first one.
 CROSSINGS = 4
 # When so many packets have come back, the next one is waited for so long at least, in seconds.
-_KNOWN, _TAIL = 10, 0.35
+_KNOWN, _TAIL = 10, 0.7
 # Of so many lost packets it is tried with more of them whether they are too many.
 _DOUBTFUL, _MORE = 3, 3
 # Where more than this part is lost, few small packets tell a limit of rate from loss: so many, and the pause after each.
