@@ -77,6 +77,7 @@ pub mod ReportedReplies
 pub mod ReportedRequests
 pub mod ReportedRuns
 pub mod ReportedTime
+pub mod RoomLemmas
 pub mod RunCutLemmas
 pub mod RunEvents
 pub mod RunGrants

@@ -28,6 +28,7 @@ pub mod RelayRows
 pub mod Replies
 pub mod Reported
 pub mod ReportedRows
+pub mod Room
 pub mod Sent
 pub mod SentRows
 pub mod Server

@@ -8,7 +8,7 @@
 //!
 //! The functions of this crate do nothing: their contracts are the laws. A proof uses one by calling its
 //! function, or names it. A law that does not speak of failed memory allocations holds for runs without
-//! one.
+//! one. Only [`kept_grants`] and [`longest_cadence`] compute something: the room that a law needs.
 //!
 //! ```rust
 //! replies_count_once_in_runs();
@@ -29,6 +29,7 @@ mod peers;
 mod promises;
 mod replies;
 mod reported;
+mod room;
 mod sent;
 mod server;
 mod silence;
@@ -53,6 +54,7 @@ pub use peers::only_permitted_is_received;
 pub use promises::runs_keep_their_promises;
 pub use replies::replies_count_once_in_runs;
 pub use reported::{causes_are_reported_once, events_are_counted};
+pub use room::{Load, kept_grants, longest_cadence};
 pub use sent::{packets_are_worked, packets_go_out};
 pub use server::requests_can_be_granted;
 pub use silence::silence_ends_a_client;
