@@ -53,7 +53,8 @@ IsOneInForce which now s = (h : Grant) × Contains s.grants h × (which h ≡ tr
 -- Then it is in force at the end, once the delay is over.
 abbrev pub RequestIsGranted : ℕ → ℕ → State → List Call → Type 0
 RequestIsGranted delay before s (CreatePermission transport ip now ∷ calls) =
-    (create_permission_step transport ip now s).0 ≡ Ok tt → IsKeptBy calls now (state_after (CreatePermission transport ip now) s) (Permission ip (Pending true))
+    (create_permission_step transport ip now s).0 ≡ Ok tt
+    → IsKeptBy calls now (state_after (CreatePermission transport ip now) s) (Permission ip (Pending true))
     → now + delay < time_of_all now calls
     → IsOneInForce (is_permission_of ip) (time_of_all now calls) (state_after_all s (CreatePermission transport ip now ∷ calls))
 RequestIsGranted delay before s (BindChannel transport peer now ∷ calls) =

@@ -1,5 +1,6 @@
 -- No grant is lost either if the caller takes packets late, as long as it is late by little.
-use Rattle.std.specs.Prelude.{◌≡◌, ◌⊎◌, ℕ, ◌+◌, ◌*◌, ◌==◌, ◌^◌, ◌<◌, ◌≤◌, max, min, true, false, List, [], ◌∷◌, None, All, is_some, if◌then◌else◌, IfSome, IsSome, ⊤}
+use Rattle.std.specs.Prelude.{◌≡◌, ◌⊎◌, ℕ, ◌+◌, ◌*◌, ◌==◌, ◌^◌, ◌<◌, ◌≤◌, max, min, true, false, ⊤}
+use Rattle.std.specs.Prelude.{List, [], ◌∷◌, None, All, is_some, if◌then◌else◌, IfSome, IsSome}
 use Rattle.std.specs.List.{AllByRecursion, Contains}
 use Rattle.turn_stun.specs.Message.{id_of}
 use Rattle.turn_stun.specs.declared.message.header.MessageClass.TheVariants.{Error, Indication, Request, Success}
@@ -133,7 +134,8 @@ RunsBehind count slots extras late delay since before past s (call ∷ calls) =
     let now = time_of before call in
     let next = state_after call s in
     let later = with_call call now s past in
-    (start : ℕ) × AreAnswered late delay since before start now past s × IsCalm call past s × HoldsAtMost count slots next × IsSeldom extras s.config.refresh_ahead now later
+    (start : ℕ) × AreAnswered late delay since before start now past s × IsCalm call past s × HoldsAtMost count slots next
+    × IsSeldom extras s.config.refresh_ahead now later
     × RunsBehind count slots extras late delay (since_next call s start) now later next calls
 
 -- ---- a server that answers, by what comes from it
@@ -179,7 +181,8 @@ RunsGranted count slots extras late delay since before past s (call ∷ calls) =
     let now = time_of before call in
     let next = state_after call s in
     let later = with_call call now s past in
-    (start : ℕ) × IsLate late since before start now s × IsCalm call past s × HoldsAtMost count slots next × IsSeldom extras s.config.refresh_ahead now later
+    (start : ℕ) × IsLate late since before start now s × IsCalm call past s × HoldsAtMost count slots next
+    × IsSeldom extras s.config.refresh_ahead now later
     × AreGranted delay call now later s calls × RunsGranted count slots extras late delay (since_next call s start) now later next calls
 
 -- A run from a steady state on, with a caller that is so late and a server that answers: none of the client's requests awaits its

@@ -16,7 +16,8 @@ use Rattle.turn_driver.specs.declared.task.Rest.TheVariants.{Until, Now, Ended}
 abbrev pub AllLate : ℕ → ℕ → ℕ → State → List Call → Type 0
 AllLate late since before s [] = ⊤
 AllLate late since before s (call ∷ calls) =
-    (start : ℕ) × IsLate late since before start (time_of before call) s × AllLate late (since_next call s start) (time_of before call) (state_after call s) calls
+    (start : ℕ) × IsLate late since before start (time_of before call) s
+    × AllLate late (since_next call s start) (time_of before call) (state_after call s) calls
 
 -- the next iteration begins so late after the deadline at most, and at the same time where work may be left
 abbrev pub BeginsLate : ℕ → Rest → ℕ → ℕ → Type 0
@@ -29,11 +30,13 @@ abbrev pub IsLateLoop : ℕ → Rest → ℕ → State → List Iteration → Ty
 IsLateLoop late rest before s [] = ⊤
 IsLateLoop late rest before s (one ∷ later) =
     let t = state_after_all s (calls_in one) in
-    BeginsLate late rest before one.now × AllByRecursion (IsAsk one.now) one.asks × (time_of_all before (calls_in one) ≡ one.now) × IsRestful one.rest one.now t
+    BeginsLate late rest before one.now × AllByRecursion (IsAsk one.now) one.asks
+    × (time_of_all before (calls_in one) ≡ one.now) × IsRestful one.rest one.now t
     × IsLateLoop late one.rest one.now t later
 
 -- no call of such a loop is later than its iterations begin
 abbrev pub LoopsAreLate : Type 0
 LoopsAreLate =
-    (late : ℕ) (rest : Rest) (before : ℕ) (s : State) (loop : List Iteration) → before ≤ 2 ^ 62 → IsRestful rest before s → IsLateLoop late rest before s loop
+    (late : ℕ) (rest : Rest) (before : ℕ) (s : State) (loop : List Iteration)
+    → before ≤ 2 ^ 62 → IsRestful rest before s → IsLateLoop late rest before s loop
     → AllLate late before before s (calls_of loop)
