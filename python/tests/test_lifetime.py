@@ -128,21 +128,48 @@ class Opening(unittest.IsolatedAsyncioTestCase):
     async def test_a_waiter_that_is_cancelled_while_it_is_closed(self) -> None:
         """Its cancellation is not taken for the end of the client: a task that is cancelled ends as one."""
         endpoint = await self.serve()
-        receive = endpoint.server.receive
-        # A challenge, and no answer to the signed request.
-        endpoint.server.receive = lambda data, *it: [] if data[:2] == b"\0\3" and len(data) > 60 else receive(data, *it)
+        receive, asked = endpoint.server.receive, asyncio.Event()
+
+        def challenge(data: bytes, *it: Any) -> Any:
+            """A challenge, and no answer to the signed request."""
+            if data[:2] != b"\0\3" or len(data) < 60:
+                return receive(data, *it)
+            asked.set()
+            return []
+
+        endpoint.server.receive = challenge
         relay = TurnClient(endpoint.uri, "user", "pass")
         opening = asyncio.ensure_future(relay.open())
-        await asyncio.sleep(0.1)
-        with unittest.mock.patch("yarrowdoor.session.DELETE_WAIT", 1.0):
+        await asyncio.wait_for(asked.wait(), 30)
+        with unittest.mock.patch("yarrowdoor.session.DELETE_WAIT", 2.0):
             closing = asyncio.ensure_future(relay.close())
-            await asyncio.sleep(0.1)
+            await asyncio.sleep(0)
+            await asyncio.sleep(0)
             self.assertFalse(opening.done() or closing.done())
             opening.cancel()
-            await asyncio.wait([opening, closing], timeout=10)
+            await asyncio.wait([opening, closing], timeout=30)
         self.assertTrue(opening.cancelled())
         self.assertTrue(closing.done())
         self.assertTrue(relay.closed)
+
+    async def test_closing_that_is_cancelled(self) -> None:
+        """The relayed address is deleted, also where a request has left just before, after which there is a pause."""
+        endpoint = await self.serve()
+        relay = TurnClient(endpoint.uri, "user", "pass", pause=2.0)
+        await relay.open()
+        asking = asyncio.ensure_future(relay.permit("10.1.0.1"))
+        await asyncio.sleep(2.1)
+        closing = asyncio.ensure_future(relay.close())
+        await asyncio.sleep(0.01)
+        closing.cancel()
+        await asyncio.wait([closing, asking], timeout=5)
+        self.assertTrue(closing.cancelled())
+        self.assertTrue(relay.closed)
+        for _ in range(100):
+            if not endpoint.server.allocations:
+                break
+            await asyncio.sleep(0.01)
+        self.assertEqual(endpoint.server.allocations, {})
 
     async def test_closing_while_it_connects(self) -> None:
         endpoint = await StreamEndpoint.start(Server())

@@ -84,15 +84,16 @@ class Manners(Case):
             began = time.monotonic()
             with self.assertRaisesRegex(AllocationFailed, "^no relayed address from turn:.* in 0.2 s"):
                 await relay.open()
-            self.assertLess(time.monotonic() - began, 2)
+            self.assertLess(time.monotonic() - began, 20)
             self.assertTrue(relay.closed)
             endpoint.server.is_dead = False
             relay = kind(endpoint.uri, "user", "pass", open_timeout=30, close_timeout=0.1)
             await relay.open()
             endpoint.server.is_dead = True
             began = time.monotonic()
-            await relay.close()
-            self.assertLess(time.monotonic() - began, 1.5)
+            with unittest.mock.patch("yarrowdoor.session.DELETE_WAIT", 30.0):
+                await relay.close()
+            self.assertLess(time.monotonic() - began, 20)
             for name in ("open_timeout", "close_timeout"):
                 settings: Any = {name: 0}
                 with self.assertRaisesRegex(ValueError, f"^{name} is a number of seconds above 0"):

@@ -37,6 +37,8 @@ GRACE = 1.0
 MEMORY_WAIT = 100_000_000
 # How long the server's answer to a delete is waited for, in seconds.
 DELETE_WAIT = 2.0
+# How far the time of a client goes on that has to end at once, until its last request has left, in nanoseconds.
+STEP, STEPS = 50_000_000, 100
 # The part of that time in which streams are closed before.
 CLOSING = 0.75
 
@@ -295,6 +297,7 @@ class Session(LinkUser):
             await asyncio.wait([self.over], timeout=self._patience())
         finally:
             self._delete_now()
+            self._transmit_delete()
             self.end(None)
 
     def _patience(self) -> float:
@@ -312,8 +315,19 @@ class Session(LinkUser):
             self._delete()
             self.drive()
 
+    def _transmit_delete(self) -> None:
+        """Has the request to delete leave, which may wait for the pause after another one: no time is left for that. The client's
+        own time goes on meanwhile, which is over anyway."""
+        now = self.clock.now()
+        for _ in range(STEPS):
+            if not self.journal.is_leaving or self.requests.last(REFRESH) is not None or isinstance(self.state, Over):
+                return
+            now += STEP
+            self._transmit(now)
+
     def _delete(self) -> None:
         self.journal.is_leaving = True
+        self.requests.forget(REFRESH)  # What is sent from now on is that which deletes.
         try:
             self.client.delete(self.clock.now())
         except Refused:
