@@ -50,9 +50,9 @@ class Server:
 
     def close_unused(self) -> None:
         """Closes the socket that was given, if it was not used."""
-        given, self._socket = self._socket, None
-        if given is not None:
-            given.close()
+        unused, self._socket = self._socket, None
+        if unused is not None:
+            unused.close()
 
     @property
     def has_own_port(self) -> bool:
