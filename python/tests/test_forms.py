@@ -1,9 +1,11 @@
 """asyncio's own forms over a relay: datagram endpoints, streams and servers."""
 import asyncio
+import errno
+import gc
 import socket
 import unittest
 import unittest.mock
-from typing import Any, List, Optional, Tuple
+from typing import Any, Dict, List, Optional, Tuple
 
 import yarrowdoor
 from yarrowdoor import AllocationFailed, Ended, PermissionFailed, Refused
@@ -126,6 +128,118 @@ class Datagrams(Case):
         self.assertEqual((allocation.channels, [*allocation.permissions]), ({}, [PEER[0]]))
         transport.close()
         await asyncio.wait_for(protocol.lost, 30)
+
+    async def test_what_goes_wrong_in_sending_is_told(self) -> None:
+        """And what waits behind it is sent."""
+        told: List[Any] = []
+        asyncio.get_running_loop().set_exception_handler(lambda loop, context: told.append(context))
+        endpoint = await self.serve(Server())
+        transport, protocol = await yarrowdoor.create_datagram_endpoint(endpoint.uri, Echo, credentials=BOTH)
+        for wrong, kind in ((5, TypeError), ("text", TypeError)):
+            with self.assertRaises(kind):
+                transport.sendto(wrong, PEER)
+        for no_peer in (("localhost", 9), ("10.1.0.1", 70_000)):
+            with self.assertRaises(ValueError):
+                transport.sendto(b"x", no_peer)
+        transport.sendto(bytes(65_505), PEER)
+        transport.sendto(b"good", PEER)
+        self.assertEqual(await asyncio.wait_for(protocol.came.get(), 5), (b"good", PEER))
+        self.assertEqual([it.errno for it in protocol.errors if isinstance(it, OSError)], [errno.EMSGSIZE])
+        with unittest.mock.patch.object(transport.relay, "bind", side_effect=MemoryError):
+            transport.sendto(b"x", OTHER)
+            await asyncio.sleep(0.01)
+        gc.collect()
+        await asyncio.sleep(0.01)
+        self.assertEqual((len(protocol.errors), told), (2, []))
+        transport.close()
+        await asyncio.wait_for(protocol.lost, 5)
+
+    async def test_data_that_comes_before_the_protocol(self) -> None:
+        """A peer that has waited for its permission sends at once."""
+        cases: List[Tuple[int, Dict[str, Any]]] = [
+            (5, {"remote_addr": PEER}), (5, {"peers": [PEER[0]]}), (1_030, {"peers": [PEER[0]]})]
+        for count, settings in cases:
+            endpoint = await self.serve(Server())
+            early = count
+
+            async def permit(relay: yarrowdoor.TurnClient, *args: object, early: int = early) -> None:
+                await real_permit(relay, *args)
+                for number in range(early):
+                    relay._inbox.put(b"%d" % number, yarrowdoor.Address(*PEER))
+
+            real_permit: Any = yarrowdoor.TurnClient.bind if "remote_addr" in settings else yarrowdoor.TurnClient.permit
+            with unittest.mock.patch.object(yarrowdoor.TurnClient, real_permit.__name__, permit):
+                transport, protocol = await yarrowdoor.create_datagram_endpoint(endpoint.uri, Echo, credentials=BOTH, **settings)
+            kept = min(count, 1_024)
+            came = [await asyncio.wait_for(protocol.came.get(), 5) for _ in range(kept)]
+            self.assertEqual(came, [(b"%d" % it, PEER) for it in range(kept)])
+            self.assertEqual(transport.relay.dropped, count - kept)
+            transport.close()
+            await asyncio.wait_for(protocol.lost, 5)
+
+    async def test_bytes_to_all_peers_are_limited(self) -> None:
+        endpoint = await self.serve(Server())
+        transport, protocol = await yarrowdoor.create_datagram_endpoint(endpoint.uri, Echo, credentials=BOTH)
+        paused: List[bool] = []
+        protocol.pause_writing = lambda: paused.append(True)  # type: ignore[assignment]
+        protocol.resume_writing = lambda: paused.append(False)  # type: ignore[assignment]
+        self.assertEqual(transport.get_write_buffer_limits(), (16_384, 65_536))
+        for number in range(2_000):
+            transport.sendto(bytes(1_200), (f"10.1.{number // 250}.{number % 250}", 9))
+        self.assertEqual(paused, [True])
+        self.assertEqual(transport.get_write_buffer_size(), (1 << 20) // 1_200 * 1_200)
+        self.assertEqual(transport.relay.unsent, 2_000 - (1 << 20) // 1_200)
+        while transport.get_write_buffer_size():
+            await asyncio.sleep(0.01)
+        self.assertEqual(paused, [True, False])
+        transport.set_write_buffer_limits(high=100)
+        self.assertEqual(transport.get_write_buffer_limits(), (25, 100))
+        with self.assertRaises(ValueError):
+            transport.set_write_buffer_limits(high=1, low=2)
+        transport.close()
+        await asyncio.wait_for(protocol.lost, 5)
+
+    async def test_ends_as_asyncio_has_them(self) -> None:
+        """After `close` no data comes, and `abort` waits for no server."""
+        endpoint = await self.serve(Server())
+        transport, protocol = await yarrowdoor.create_datagram_endpoint(endpoint.uri, Echo, credentials=BOTH, peers=[PEER[0]])
+        transport.close()
+        transport.relay._inbox.put(b"late", yarrowdoor.Address(*PEER))
+        await asyncio.wait_for(protocol.lost, 5)
+        self.assertTrue(protocol.came.empty())
+        silent = Server()
+        endpoint = await self.serve(silent)
+        transport, protocol = await yarrowdoor.create_datagram_endpoint(endpoint.uri, Echo, credentials=BOTH)
+        silent.is_dead = True
+        start = asyncio.get_running_loop().time()
+        transport.abort()
+        await protocol.lost
+        self.assertLess(asyncio.get_running_loop().time() - start, 1)
+        transport.abort()
+        await transport.relay.wait_closed()
+
+    async def test_an_ipv6_peer_in_any_spelling(self) -> None:
+        sent: List[object] = []
+        endpoint = await self.serve(Server())
+        transport, protocol = await yarrowdoor.create_datagram_endpoint(endpoint.uri, Echo, credentials=BOTH)
+        await asyncio.sleep(0)
+        transport._remote = yarrowdoor.Address("2001:db8::7", 9)
+        relay: Any = unittest.mock.Mock(closed=False, addresses=[("2001:db8::1", 1)], bind=unittest.mock.AsyncMock())
+        relay.sendto = lambda data, peer: sent.append(peer)
+        real, transport.relay = transport.relay, relay
+        spellings: List[Any] = [("2001:db8::7", 9), ("2001:DB8::7", 9), ("2001:db8:0:0:0:0:0:7", 9, 0, 0)]
+        for spelling in spellings:
+            transport.sendto(b"x", spelling)
+        await asyncio.sleep(0.01)
+        self.assertEqual((sent, relay.bind.await_count), ([("2001:db8::7", 9)] * 3, 1))
+        transport.relay = real
+        transport.close()
+        await asyncio.wait_for(protocol.lost, 5)
+
+    async def test_arguments_in_the_order_of_asyncio(self) -> None:
+        swapped: Any = (Echo, "turn:127.0.0.1")
+        with self.assertRaisesRegex(TypeError, "the URI of the server comes first"):
+            await yarrowdoor.create_datagram_endpoint(*swapped, credentials=BOTH)
 
     async def test_a_relay_that_ends(self) -> None:
         endpoint = await self.serve(Server())

@@ -1,3 +1,4 @@
+# mypy: enable-incomplete-feature=Unpack
 """Streams over a relay as asyncio has them: `open_connection` and `start_server` (RFC 6062)."""
 from __future__ import annotations
 
@@ -5,7 +6,7 @@ import asyncio
 import contextlib
 import socket
 from types import TracebackType
-from typing import Any, Awaitable, Callable, Iterable, Optional, Set, Tuple, Type, Union
+from typing import TYPE_CHECKING, Any, Awaitable, Callable, Iterable, Optional, Set, Tuple, Type, Union
 
 from .address import Address
 from .credentials import CredentialsLike
@@ -14,6 +15,11 @@ from .lookup import look_up
 from .streams import Pair
 from .turn import TurnClient
 from .uri import TurnUri
+
+if TYPE_CHECKING:
+    from typing_extensions import Unpack
+
+    from .keywords import StreamKeywords
 
 __all__ = ["RelayServer", "open_connection", "start_server"]
 
@@ -26,7 +32,7 @@ _closing: Set[asyncio.Future[None]] = set()
 
 async def open_connection(uri: Union[str, TurnUri], host: str, port: int, *, credentials: CredentialsLike,
                           local_addr: Optional[Tuple[str, int]] = None, family: int = 0, relay_family: int = 4,
-                          **settings: Any) -> Pair:
+                          **settings: Unpack[StreamKeywords]) -> Pair:
     """A stream to a peer from a relayed address: `asyncio.open_connection` over a TURN server, which has to be reached over TCP or
     TLS. A name is resolved here, and its first address taken. The relayed address is deleted when the stream has ended.
 
@@ -58,7 +64,7 @@ async def _close_after(writer: asyncio.StreamWriter, relay: TurnClient) -> None:
 
 async def start_server(uri: Union[str, TurnUri], client_connected_cb: Connected, *, credentials: CredentialsLike,
                        peers: Iterable[str] = (), local_addr: Optional[Tuple[str, int]] = None, family: int = 0,
-                       relay_family: int = 4, **settings: Any) -> RelayServer:
+                       relay_family: int = 4, **settings: Unpack[StreamKeywords]) -> RelayServer:
     """A server for peers at a relayed address: `asyncio.start_server` over a TURN server, which has to be reached over TCP or TLS.
 
     `client_connected_cb` is called with a reader and a writer for each peer that connects. `peers` are the IP addresses that may,
@@ -141,7 +147,7 @@ class RelayServer:
 
 
 def _client(uri: Union[str, TurnUri], credentials: CredentialsLike, local_addr: Optional[Tuple[str, int]], family: int,
-            relay_family: int, settings: Any) -> TurnClient:
+            relay_family: int, settings: StreamKeywords) -> TurnClient:
     return TurnClient(uri, credentials=credentials, relay="tcp", family=relay_family, local_addr=local_addr, socket_family=family,
                       **settings)
 

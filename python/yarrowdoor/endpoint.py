@@ -1,8 +1,11 @@
+# mypy: enable-incomplete-feature=Unpack
 """A relayed address as a datagram endpoint of asyncio, for protocols that know nothing of TURN."""
 from __future__ import annotations
 
 import asyncio
-from typing import Any, Callable, Dict, Iterable, List, Optional, Set, Tuple, TypeVar, Union
+import collections
+import errno
+from typing import TYPE_CHECKING, Any, Callable, Deque, Dict, Iterable, List, Optional, Set, Tuple, TypeVar, Union
 
 from .address import Address, AddressLike, checked_peer
 from .credentials import CredentialsLike
@@ -10,12 +13,21 @@ from .errors import Refused, YarrowdoorError
 from .turn import TurnClient
 from .uri import TurnUri
 
+if TYPE_CHECKING:
+    from typing_extensions import Unpack
+
+    from .keywords import EndpointKeywords
+
 __all__ = ["RelayTransport", "create_datagram_endpoint", "endpoint_over"]
 
 Protocol = TypeVar("Protocol", bound=asyncio.DatagramProtocol)
 
-# So many packets to a peer wait for its channel. A further one is dropped, as a network may drop it.
-WAITING = 64
+# So many packets to a peer wait for its channel, and so many bytes to all. A further one is dropped, as a network may drop it.
+WAITING, MAX_BYTES = 64, 1 << 20
+# From so many bytes on that wait the protocol is to pause, and from so few on to go on, as in asyncio.
+HIGH, LOW = 64 * 1024, 16 * 1024
+# So many packets of peers are kept that come before there is a protocol.
+EARLY = 1_024
 # So many peers are remembered: as many as a client has channels.
 MAX_PEERS = 4_096
 # How long a peer is left alone after the server has refused its channel, in seconds.
@@ -26,7 +38,7 @@ async def create_datagram_endpoint(uri: Union[str, TurnUri], protocol_factory: C
                                    credentials: CredentialsLike, remote_addr: Optional[AddressLike] = None,
                                    local_addr: Optional[Tuple[str, int]] = None, family: int = 0,
                                    relay_family: Union[int, Tuple[int, int]] = 4, peers: Iterable[str] = (),
-                                   **settings: Any) -> Tuple[RelayTransport, Protocol]:
+                                   **settings: Unpack[EndpointKeywords]) -> Tuple[RelayTransport, Protocol]:
     """A transport that sends from a relayed address, and its protocol: `loop.create_datagram_endpoint` over a TURN server.
 
     `credentials` is user and password, or an async function that returns them. `remote_addr` is the only peer, as for a connected
@@ -38,16 +50,32 @@ async def create_datagram_endpoint(uri: Union[str, TurnUri], protocol_factory: C
     the socket; and `relay`, the `TurnClient`. Raises what entering that raises, and `PermissionFailed`, `ChannelFailed` for `peers`
     and `remote_addr`.
     """
-    settings.update(credentials=credentials, local_addr=local_addr, socket_family=family, family=relay_family)
-    return await endpoint_over(protocol_factory, lambda take: TurnClient(uri, receiver=take, **settings), remote_addr, peers)
+    if not isinstance(uri, (str, TurnUri)):
+        raise TypeError(f"the URI of the server comes first, and protocol_factory after it, and not {uri!r}")
+
+    def make(take: Callable[[bytes, Address], None]) -> TurnClient:
+        return TurnClient(uri, credentials=credentials, local_addr=local_addr, socket_family=family, family=relay_family,
+                          receiver=take, **settings)
+
+    return await endpoint_over(protocol_factory, make, remote_addr, peers)
 
 
 async def endpoint_over(factory: Callable[[], Protocol], make: Callable[[Callable[[bytes, Address], None]], TurnClient],
                         remote: Optional[AddressLike] = None, peers: Iterable[str] = ()) -> Tuple[RelayTransport, Protocol]:
     """The endpoint over the client that `make` makes with its receiver."""
     made: List[RelayTransport] = []
+    early: Deque[Tuple[bytes, Address]] = collections.deque()
     peer = checked_peer(remote) if remote is not None else None
-    relay = make(lambda data, peer: made[0].take(data, peer) if made else None)
+
+    def take(data: bytes, peer: Address) -> None:
+        if made:
+            made[0].take(data, peer)
+        elif len(early) < EARLY:
+            early.append((data, peer))
+        else:
+            relay.count_dropped()
+
+    relay = make(take)
     await relay.open()
     try:
         if peer is not None:
@@ -55,6 +83,8 @@ async def endpoint_over(factory: Callable[[], Protocol], make: Callable[[Callabl
         await asyncio.gather(*(relay.permit(it) for it in peers))
         protocol = factory()
         made.append(RelayTransport(protocol, relay, peer))
+        for data in early:
+            asyncio.get_running_loop().call_soon(made[0].take, *data)
     except BaseException:
         await relay.close()
         raise
@@ -62,35 +92,58 @@ async def endpoint_over(factory: Callable[[], Protocol], make: Callable[[Callabl
 
 
 class RelayTransport(asyncio.DatagramTransport):
-    """Sends from a relayed address, and binds a channel to each peer first. A peer that can have none is sent longer packets."""
+    """Sends from a relayed address, and binds a channel to each peer first. A peer that can have none is sent longer packets.
+
+    The protocol is told to pause while more bytes wait for channels than `set_write_buffer_limits` says, or the socket is full.
+    """
 
     def __init__(self, protocol: Any, relay: TurnClient, remote: Optional[Address] = None) -> None:
         super().__init__({"sockname": relay.address, "peername": remote, "related_address": relay.local_address, "relay": relay})
         self.protocol, self.relay, self._remote = protocol, relay, remote
         self._bound: Set[Address] = set()
         self._waiting: Dict[Address, List[bytes]] = {}
+        self._bytes, self._high, self._low = 0, HIGH, LOW
+        self._is_full = self._is_over_limit = self._is_paused = False
         self._refused: Dict[Address, float] = {}
         self._tasks: Set[asyncio.Future[None]] = set()
-        self._is_closing = False
-        relay.on_pause, relay.on_error = self._pause, protocol.error_received
+        self._is_closing = self._is_lost = False
+        relay.on_pause, relay.on_error = self._pause, self._tell
         protocol.connection_made(self)
         self._spawn(self._watch())
 
     def take(self, data: bytes, peer: Address) -> None:
         """Takes data of a peer."""
-        if self._remote is None or peer == self._remote:
+        if not self._is_closing and (self._remote is None or peer == self._remote):
             self.protocol.datagram_received(data, peer)
 
     def _pause(self, is_full: bool) -> None:
-        if is_full:
-            self.protocol.pause_writing()
-        else:
-            self.protocol.resume_writing()
+        self._is_full = is_full
+        self._tell_pause()
+
+    def _tell_pause(self) -> None:
+        """Has the protocol pause, or go on."""
+        is_paused = self._is_full or self._is_over_limit
+        if is_paused == self._is_paused:
+            return
+        self._is_paused = is_paused
+        try:
+            (self.protocol.pause_writing if is_paused else self.protocol.resume_writing)()
+        except Exception as error:
+            asyncio.get_running_loop().call_exception_handler({"message": "a protocol over a relay raised", "exception": error,
+                                                               "transport": self, "protocol": self.protocol})
+
+    def _tell(self, error: Exception) -> None:
+        """Tells the protocol an error. What that raises goes to the event loop's handler."""
+        if not self._is_closing:
+            asyncio.get_running_loop().call_soon(self.protocol.error_received, error)
 
     def sendto(self, data: Any, addr: Optional[Any] = None) -> None:
         """Sends data to a peer, when it has a channel. Where the server lets it have none, the data is dropped, and the protocol's
-        `error_received` told. `ValueError` where there is no peer, or another one than `remote_addr`."""
-        peer = Address(addr[0], addr[1]) if addr is not None else self._remote
+        `error_received` told, as where it is too long. `ValueError` where there is no peer, one that is no IP address, or another
+        one than `remote_addr`; `TypeError` where the data is none."""
+        if not isinstance(data, (bytes, bytearray, memoryview)):
+            raise TypeError(f"data is bytes, a bytearray or a memoryview, and not {type(data).__name__}")
+        peer = checked_peer(addr) if addr is not None else self._remote
         if peer is None:
             raise ValueError("a relayed address has no peer of its own")
         if self._remote is not None and peer != self._remote:
@@ -99,12 +152,27 @@ class RelayTransport(asyncio.DatagramTransport):
             return
         if peer in self._bound:
             self._send(bytes(data), peer)
-        elif peer in self._waiting:
-            if len(self._waiting[peer]) < WAITING:
-                self._waiting[peer].append(bytes(data))
         elif self._refused.get(peer, 0.0) <= asyncio.get_running_loop().time():
-            self._waiting[peer] = [bytes(data)]
+            self._keep(bytes(data), peer)
+
+    def _keep(self, data: bytes, peer: Address) -> None:
+        """Has data wait for the channel of a peer."""
+        waiting = self._waiting.get(peer)
+        is_too_much = self._bytes + len(data) > MAX_BYTES or len(self._waiting) >= MAX_PEERS and waiting is None
+        if is_too_much or waiting is not None and len(waiting) >= WAITING:
+            self.relay.count_unsent()
+            return
+        if waiting is None:
+            waiting = self._waiting[peer] = []
             self._spawn(self._prepare(peer))
+        waiting.append(data)
+        self._count(len(data))
+
+    def _count(self, change: int) -> None:
+        self._bytes += change
+        if self._bytes > self._high or self._bytes <= self._low:
+            self._is_over_limit = self._bytes > self._high
+            self._tell_pause()
 
     def _reaches(self, peer: Address) -> bool:
         return any((":" in peer[0]) == (":" in it[0]) for it in self.relay.addresses)
@@ -116,29 +184,38 @@ class RelayTransport(asyncio.DatagramTransport):
             self._bound.discard(peer)  # Its permission is gone: it is asked for with the next packet.
         except YarrowdoorError:
             pass  # The client has just ended, which `connection_lost` tells.
+        except ValueError as error:
+            self._tell(OSError(errno.EMSGSIZE, str(error)))
+        except MemoryError as error:
+            self._tell(error)
 
     async def _prepare(self, peer: Address) -> None:
-        """Gets a channel for a peer, or else a permission: its earlier channel may still be reserved, or all numbers taken."""
+        """Gets a channel for a peer, and sends what has waited for it."""
         try:
-            try:
-                await self.relay.bind(peer)
-            except Refused:
-                await self.relay.permit(peer.host)
-            if len(self._bound) >= MAX_PEERS:
-                self._bound.clear()  # Each is asked for again, which takes no request where it is granted.
-            self._bound.add(peer)
-            self._refused.pop(peer, None)
-        except YarrowdoorError as error:
+            await self._bind(peer)
+        except Exception as error:
             if len(self._refused) >= MAX_PEERS:
                 self._refused.clear()
             self._refused[peer] = asyncio.get_running_loop().time() + REST
             if not self.relay.closed:
-                self.protocol.error_received(PermissionError(f"no data to {peer}: {error}"))
+                self._tell(PermissionError(f"no data to {peer}: {error}"))
         finally:
             waiting = self._waiting.pop(peer)
+            self._count(-sum(map(len, waiting)))
         for data in waiting:
             if peer in self._bound:
                 self._send(data, peer)
+
+    async def _bind(self, peer: Address) -> None:
+        """Gets a channel, or else a permission: its earlier channel may still be reserved, or all numbers taken."""
+        try:
+            await self.relay.bind(peer)
+        except Refused:
+            await self.relay.permit(peer.host)
+        if len(self._bound) >= MAX_PEERS:
+            self._bound.clear()  # Each is asked for again, which takes no request where it is granted.
+        self._bound.add(peer)
+        self._refused.pop(peer, None)
 
     async def _watch(self) -> None:
         """Tells the protocol when the relayed address is gone."""
@@ -147,8 +224,14 @@ class RelayTransport(asyncio.DatagramTransport):
             await self.relay.wait_closed()
         except YarrowdoorError as ended:
             error = ended
+        self._lose(error)
+
+    def _lose(self, error: Optional[Exception]) -> None:
+        """Calls `connection_lost`, once."""
         self._is_closing = True
-        self.protocol.connection_lost(error)
+        if not self._is_lost:
+            self._is_lost = True
+            asyncio.get_running_loop().call_soon(self.protocol.connection_lost, error)
 
     def _spawn(self, work: Any) -> None:
         task = asyncio.ensure_future(work)
@@ -162,16 +245,33 @@ class RelayTransport(asyncio.DatagramTransport):
             self._spawn(self.relay.close())
 
     def abort(self) -> None:
+        """The same, but that `connection_lost` is called soon, and the server's answer waited for after it."""
         self.close()
+        self._lose(None)
 
     def is_closing(self) -> bool:
         return self._is_closing
 
     def get_write_buffer_size(self) -> int:
-        return 0  # What the socket does not take is dropped.
+        """How many bytes wait for channels of peers."""
+        return self._bytes
+
+    def get_write_buffer_limits(self) -> Tuple[int, int]:
+        """The lower and the upper limit of `set_write_buffer_limits`."""
+        return self._low, self._high
+
+    def set_write_buffer_limits(self, high: Optional[int] = None, low: Optional[int] = None) -> None:
+        """From how many bytes on that wait the protocol is to pause, and from how few on to go on, as in asyncio."""
+        if high is None:
+            high = HIGH if low is None else 4 * low
+        low = high // 4 if low is None else low
+        if not high >= low >= 0:
+            raise ValueError(f"high ({high}) is at least low ({low}), which is at least 0")
+        self._high, self._low = high, low
+        self._count(0)
 
     def get_protocol(self) -> Any:
         return self.protocol
 
     def set_protocol(self, protocol: Any) -> None:
-        self.protocol, self.relay.on_error = protocol, protocol.error_received
+        self.protocol = protocol

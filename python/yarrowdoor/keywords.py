@@ -8,17 +8,13 @@ from typing import Optional, Tuple, TypedDict, Union
 from .clock import Clock
 from .settings import Times
 
-__all__ = ["ClientKeywords"]
+__all__ = ["ClientKeywords", "EndpointKeywords", "RelayKeywords", "StreamKeywords"]
 
 
-class ClientKeywords(TypedDict, total=False):
-    """What `TurnClient` takes, and says of it, beside URI, credentials, `queue` and `receiver`."""
+class CommonKeywords(TypedDict, total=False):
+    """What all that opens a relayed address takes, as `TurnClient` says."""
 
-    relay: str
-    family: Union[int, Tuple[int, int]]
     ssl: Optional[tls.SSLContext]
-    times: Optional[Times]
-    probe: Optional[float]
     keepalive: float
     pause: float
     refresh_ahead: float
@@ -26,7 +22,38 @@ class ClientKeywords(TypedDict, total=False):
     max_stale_nonces: int
     idle: Optional[float]
     redirects: int
+    close_timeout: Optional[float]
+    clock: Optional[Clock]
+
+
+class EndpointKeywords(CommonKeywords, total=False):
+    """What asyncio's own forms over a relay take beside their own arguments."""
+
+    times: Optional[Times]
+    probe: Optional[float]
+    open_timeout: Optional[float]
+    sock: Optional[socket.socket]
+
+
+class StreamKeywords(EndpointKeywords, total=False):
+    """What streams over a relay take beside."""
+
+    queue: int
+
+
+class RelayKeywords(CommonKeywords, total=False):
+    """What a `Relay` takes beside its own arguments."""
+
+    relay: str
+    family: Union[int, Tuple[int, int]]
     sock: Optional[socket.socket]
     local_addr: Optional[Tuple[str, int]]
     socket_family: int
-    clock: Optional[Clock]
+
+
+class ClientKeywords(RelayKeywords, total=False):
+    """What a client for threads takes beside its own arguments."""
+
+    times: Optional[Times]
+    probe: Optional[float]
+    open_timeout: Optional[float]

@@ -1,3 +1,4 @@
+# mypy: enable-incomplete-feature=Unpack
 """A relayed address that comes back: after an outage, another address of this host, or a restart of the server."""
 from __future__ import annotations
 
@@ -6,7 +7,9 @@ import copy
 import functools
 import warnings
 from types import TracebackType
-from typing import Any, AsyncIterator, Awaitable, Callable, Dict, List, NoReturn, Optional, Tuple, Type, Union
+from typing import (
+    TYPE_CHECKING, Any, AsyncIterator, Awaitable, Callable, Dict, List, NoReturn, Optional, Tuple, Type, Union,
+)
 
 from .address import Address, AddressLike, SocketAddress, checked_ip, checked_peer
 from .backoff import Backoff
@@ -24,6 +27,11 @@ from .tries import TIMES, Tries, Watched
 from .uri import TurnUri
 from .vigil import UNSURE
 from .within import within
+
+if TYPE_CHECKING:
+    from typing_extensions import Unpack
+
+    from .keywords import RelayKeywords
 
 __all__ = ["Relay"]
 
@@ -68,7 +76,7 @@ class Relay(Told):
                  credentials: Optional[CredentialsLike] = None, backoff: Backoff = Backoff(), waits: bool = False,
                  on_state: Optional[Callable[[State], None]] = None, probe: Optional[float] = 5.0, times: Times = TIMES,
                  queue: int = 1024, receiver: Optional[Receiver] = None, open_timeout: Optional[float] = None,
-                 **settings: Any) -> None:
+                 **settings: Unpack[RelayKeywords]) -> None:
         Told.__init__(self, Inbox(queue, receiver), Notices())
         if settings.get("relay", "udp") != "udp":
             raise ValueError("a Relay has no streams: use a TurnClient with relay='tcp'")
@@ -77,12 +85,12 @@ class Relay(Told):
         check_seconds(above_zero={"probe": probe}, from_zero={})
         check_seconds(above_zero={"open_timeout": open_timeout}, from_zero={})
         self._uri, self._waits, self._states, self._open_timeout = uri, waits, States(on_state), open_timeout
-        settings.update(times=times, receiver=self._inbox.put)
+        given = {**settings, "times": times, "receiver": self._inbox.put}
         # Nothing of this goes back to the relay, so that one that nobody has any more is collected.
-        make = functools.partial(_client, self._notices.counters, uri, settings)
+        make = functools.partial(_client, self._notices.counters, uri, given)
         client = make(Credentials("", ""))  # says what is wrong with the arguments
         if client.ssl is not None:
-            settings["ssl"] = client.ssl  # To make one takes 0.1 s.
+            given["ssl"] = client.ssl  # To make one takes 0.1 s.
         tries = Tries(make, one_source(user, password, credentials), backoff)
         self._revival = Revival(tries, self._states, self._inbox, self._notices, probe)
 
