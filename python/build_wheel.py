@@ -162,7 +162,10 @@ def write_wheel(directory: str, version: str, tag: str, found: Dict[str, bytes])
     """Writes a wheel with these files, and its own, and returns its name."""
     about = f"{project('name')}-{version}"
     info = f"{about}.dist-info"
-    tags = "".join(f"Tag: py3-none-{it}\n" for it in tag.split("."))
+    # A library is called through the interpreter's lock of CPython (`ctypes.PyDLL`), which PyPy and builds without a lock have not.
+    # They take no wheel of the stable ABI, and each CPython from 3.9 on does.
+    python = "py3-none" if tag == "any" else "cp39-abi3"
+    tags = "".join(f"Tag: {python}-{it}\n" for it in tag.split("."))
     found[f"{info}/METADATA"] = metadata(version)
     found[f"{info}/LICENSE"] = licence()
     found[f"{info}/entry_points.txt"] = entry_points()
@@ -170,7 +173,7 @@ def write_wheel(directory: str, version: str, tag: str, found: Dict[str, bytes])
     found[f"{info}/WHEEL"] = f"Wheel-Version: 1.0\nGenerator: build_wheel\nRoot-Is-Purelib: {is_pure}\n{tags}".encode()
     record = "".join(f"{name},sha256={sum_of(data)},{len(data)}\n" for name, data in found.items())
     found[f"{info}/RECORD"] = f"{record}{info}/RECORD,,\n".encode()
-    name = f"{about}-py3-none-{tag}.whl"
+    name = f"{about}-{python}-{tag}.whl"
     with zipfile.ZipFile(os.path.join(directory, name), "w", zipfile.ZIP_DEFLATED) as wheel:
         for path, data in found.items():
             entry = zipfile.ZipInfo(path, (2020, 1, 1, 0, 0, 0))

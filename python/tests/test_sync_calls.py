@@ -3,9 +3,12 @@ import asyncio
 import concurrent.futures
 import contextlib
 import fcntl
+import pathlib
 import resource
 import socket
 import ssl
+import subprocess
+import sys
 import tempfile
 import threading
 import time
@@ -95,6 +98,19 @@ class OverUdp(unittest.TestCase):
         relay.wait_closed()
         with self.assertRaisesRegex(Ended, "was not opened"):
             sync.TurnClient(endpoint.uri, "user", "pass").wait_closed()
+
+    def test_it_is_there_with_the_package(self) -> None:
+        words = [sys.executable, "-c", "import yarrowdoor; yarrowdoor.sync.TurnClient"]
+        self.assertEqual(subprocess.run(words, cwd=pathlib.Path(__file__).resolve().parent.parent).returncode, 0)
+
+    def test_bytes_of_wide_items_are_counted(self) -> None:
+        async def count(uri: str) -> int:
+            async with TurnClient(uri, "user", "pass") as relay:
+                await relay.send(memoryview(bytes(40)).cast("Q"), PEER)
+                return relay.counters.bytes_out
+
+        endpoint, _ = self.relay(Server())
+        self.assertEqual(asyncio.run(count(endpoint.uri)), 40)
 
     def test_times_are_seconds(self) -> None:
         endpoint, _ = self.relay(Server(), keepalive=0.25)

@@ -141,10 +141,10 @@ class Files(unittest.TestCase):
                            (library("libc.musl-x86_64.so.1"), "musllinux_1_1_x86_64")):
             with tempfile.TemporaryDirectory() as room:
                 name = wheel_with(HEAD, room, found)
-                self.assertEqual(name, f"yarrowdoor-{backend().release()}+unproved-py3-none-{tag}.whl")
+                self.assertEqual(name, f"yarrowdoor-{backend().release()}+unproved-cp39-abi3-{tag}.whl")
                 with zipfile.ZipFile(pathlib.Path(room, name)) as wheel:
                     about = wheel.read(f"yarrowdoor-{backend().release()}+unproved.dist-info/WHEEL").decode()
-                self.assertEqual(re.findall("^Tag: (.*)$", about, re.M), [f"py3-none-{it}" for it in tag.split(".")])
+                self.assertEqual(re.findall("^Tag: (.*)$", about, re.M), [f"cp39-abi3-{it}" for it in tag.split(".")])
 
     def test_the_systems_that_no_wheel_fits(self) -> None:
         """A newer C library, another library, another machine, and what is no library."""

@@ -12,6 +12,7 @@ asyncio gives over sockets, and `sync` is for scripts and threads.
 The library is proved, where `PROOF` in the package says so; this package is tested, and not proved. The README says how to
 begin. In a wheel it is the description: `importlib.metadata.metadata("yarrowdoor").get_payload()`.
 """
+from . import sync
 from .address import Address
 from .backoff import Backoff
 from .client import Client, Times
@@ -36,5 +37,5 @@ __all__ = [
     "Address", "AllocationFailed", "Backoff", "Busy", "ChannelFailed", "Check", "Client", "Clock", "ConnectFailed", "Counters",
     "Credentials", "Down", "Ended", "LibraryError", "Lost", "PermissionFailed", "Refused", "Relay", "RelayServer",
     "RelayTransport", "Times", "TurnClient", "TurnUri", "Up", "WrongCredentials", "YarrowdoorError", "__version__",
-    "create_datagram_endpoint", "open_connection", "rest_credentials", "start_server",
+    "create_datagram_endpoint", "open_connection", "rest_credentials", "start_server", "sync",
 ]

@@ -73,7 +73,7 @@ async def endpoint_over(factory: Callable[[], Protocol], make: Callable[[Callabl
         elif len(early) < EARLY:
             early.append((data, peer))
         else:
-            relay.count_dropped()
+            relay._count_dropped()
 
     relay = make(take)
     await relay.open()
@@ -160,7 +160,7 @@ class RelayTransport(asyncio.DatagramTransport):
         waiting = self._waiting.get(peer)
         is_too_much = self._bytes + len(data) > MAX_BYTES or len(self._waiting) >= MAX_PEERS and waiting is None
         if is_too_much or waiting is not None and len(waiting) >= WAITING:
-            self.relay.count_unsent()
+            self.relay._count_unsent()
             return
         if waiting is None:
             waiting = self._waiting[peer] = []

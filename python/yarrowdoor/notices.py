@@ -78,11 +78,11 @@ class Told:
         """How many packets to peers were dropped, since the socket was full or refused them. Later losses are not counted."""
         return self._notices.unsent
 
-    def count_unsent(self) -> None:
+    def _count_unsent(self) -> None:
         """Something over this has dropped a packet to a peer."""
         self._notices.unsent += 1
 
-    def count_dropped(self) -> None:
+    def _count_dropped(self) -> None:
         """Something over this has dropped a packet of a peer."""
         self._inbox.dropped += 1
 
