@@ -1,0 +1,2 @@
+pub mod PhraseLemmas
+pub mod RestLemmas

@@ -1,0 +1,120 @@
+-- What refusals make of the keys that rest.
+use Rattle.std.proofs.Common.{◌≡◌, ℕ, zero, suc, ◌+◌, ◌-◌, ◌*◌, ◌^◌, ◌<◌, ◌≤◌, Bool, true, false, List, [], ◌∷◌, ◌++◌, length, take, drop, min, get_or, Some, None, refl, sym, ap, ◌∙◌, inl, inr, arith, ltb}
+use Rattle.std.specs.Prelude.{slice_get, is_some, IsSome, Option, remove}
+use Rattle.std.specs.List.{position, position_or_len, find}
+use Rattle.std.proofs.lemmas.Bool.{cases_Bool, ltb-true, ltb-false}
+use Rattle.std.proofs.lemmas.List.{length-append}
+use Rattle.std.proofs.lemmas.List.Edits.{length-remove}
+use Rattle.std.proofs.lemmas.List.Folds.{find_at}
+use Rattle.std.proofs.lemmas.Option.{cond_some, slice_get-get_or, slice_get_past, none-some}
+use Rattle.turn_session.specs.Keys.{same_key}
+use Rattle.turn_session.specs.Rests.{after_refusal, last_rests, new_rest, next_wait, rest_in_force, rest_with, without_rest}
+use Rattle.turn_session.specs.declared.keys.Key.{Key}
+use Rattle.turn_session.specs.declared.replies.ErrorReply.{ErrorReply}
+use Rattle.turn_session.specs.declared.rests.Rest.{Rest}
+
+-- ---- what stands at a place
+
+-- the place is within, and what stands there is found
+pub record IsFirst {X : Type 0} (p : X → Bool) (xs : List X) (i : ℕ) : Type 0 where
+  pub within : i < length xs
+  pub found : (d : X) → find p xs ≡ Some (get_or xs i d)
+
+pub position-IsFirst : {X : Type 0} (p : X → Bool) (xs : List X) (i : ℕ) → position p xs ≡ Some i → IsFirst p xs i
+position-IsFirst p xs i at =
+    let parts = cond_some (ltb (position_or_len p xs) (length xs)) (position_or_len p xs) i at in
+    let within = ltb-true _ _ parts.0 in
+    record {
+      within = omega (arith, within, parts.1);
+      found = λ d. rw (find_at p xs, parts.1) (slice_get-get_or xs i d (omega (arith, within, parts.1)));
+    }
+
+pub position-none : {X : Type 0} (p : X → Bool) (xs : List X) → position p xs ≡ None → find p xs ≡ None
+position-none p xs none = elim (cases_Bool (ltb (position_or_len p xs) (length xs))) [
+  | inl within ↦ absurd (none-some _ (sym (rw within at none)))
+  | inr past ↦ rw (find_at p xs) (slice_get_past xs (position_or_len p xs) (ltb-false _ _ past))
+]
+
+-- ---- the rest of a key
+
+abbrev pub is_of : Key → Rest → Bool
+is_of key r = same_key r.key key
+
+pub without_rest-none : (key : Key) (rests : List Rest) → position (is_of key) rests ≡ None → without_rest key rests ≡ rests
+without_rest-none key rests none = rw none refl
+
+pub without_rest-some : (key : Key) (rests : List Rest) (i : ℕ) → position (is_of key) rests ≡ Some i → without_rest key rests ≡ remove rests i
+without_rest-some key rests i at = rw at refl
+
+-- a key that never rested
+pub rest_with-none : (key : Key) (rests : List Rest) → position (is_of key) rests ≡ None → rest_with key rests ≡ None
+rest_with-none key rests none = position-none (is_of key) rests none
+
+pub rest_with-unknown : (key : Key) (rests : List Rest) → position (is_of key) rests ≡ None → IsSome (rest_with key rests) → ⊥
+rest_with-unknown key rests none known =
+    let never : is_some {T = Rest} None ≡ true = rw (rest_with-none key rests none) at known in
+    cc
+
+pub rest_in_force-none : (key : Key) (now : ℕ) (rests : List Rest) → position (is_of key) rests ≡ None → None ≡ rest_in_force key now rests
+rest_in_force-none key now rests none = rw (rest_with-none key rests none) refl
+
+rest_with-some : (key : Key) (rests : List Rest) (i : ℕ) (r : Rest) → position (is_of key) rests ≡ Some i → r ≡ get_or rests i r → rest_with key rests ≡ Some r
+rest_with-some key rests i r at is = (position-IsFirst (is_of key) rests i at).found r ∙ ap Some (sym is)
+
+pub rest_in_force-before : (key : Key) (now : ℕ) (rests : List Rest) (i : ℕ) (r : Rest) → position (is_of key) rests ≡ Some i → r ≡ get_or rests i r → ltb now r.until ≡ true
+    → Some r ≡ rest_in_force key now rests
+rest_in_force-before key now rests i r at is before = rw (rest_with-some key rests i r at is, before) refl
+
+pub rest_in_force-after : (key : Key) (now : ℕ) (rests : List Rest) (i : ℕ) (r : Rest) → position (is_of key) rests ≡ Some i → r ≡ get_or rests i r → ltb now r.until ≡ false
+    → None ≡ rest_in_force key now rests
+rest_in_force-after key now rests i r at is after = rw (rest_with-some key rests i r at is, after) refl
+
+-- ---- refusals
+
+-- not more than are remembered
+last_rests-few : (rests : List Rest) → length rests ≤ 4096 → rests ≡ last_rests rests
+last_rests-few rests few =
+    let all : length rests - 4096 ≡ 0 = omega (arith, few) in
+    rw all refl
+
+drop_one-append : (rests : List Rest) (r : Rest) → 0 < length rests → remove rests 0 ++ r ∷ [] ≡ drop 1 (rests ++ r ∷ [])
+drop_one-append [] r some = absurd (omega arith)
+drop_one-append (x ∷ rests) r some = refl
+
+-- one more than are remembered
+last_rests-full : (rests : List Rest) (r : Rest) → length rests ≡ 4096 → remove rests 0 ++ r ∷ [] ≡ last_rests (rests ++ r ∷ [])
+last_rests-full rests r full =
+    let one : length (rests ++ r ∷ []) - 4096 ≡ 1 = omega (arith, length-append rests (r ∷ []), full) in
+    rw one (drop_one-append rests r (omega (arith, full)))
+
+-- a key that was refused before
+pub after_refusal-again : (key : Key) (error : Option ErrorReply) (now : ℕ) (rests left : List Rest) (i : ℕ) (before : Rest) (wait until : ℕ) → position (is_of key) rests ≡ Some i
+    → before ≡ get_or rests i before → left ≡ remove rests i → length rests ≤ 4096 → wait ≡ min (2 * before.wait) 80_000_000_000 → until ≡ min (now + wait) (2 ^ 63 - 1)
+    → left ++ record { key = key; wait = wait; until = until; error = error } ∷ [] ≡ after_refusal key error now rests
+after_refusal-again key error now rests left i before wait until at taken is_left few is_wait is_until =
+    let first = position-IsFirst (is_of key) rests i at in
+    let found = rest_with-some key rests i before at taken in
+    let r : Rest = record { key = key; wait = wait; until = until; error = error } in
+    let one : left ++ r ∷ [] ≡ without_rest key rests ++ new_rest key error now rests ∷ [] = rw (is_until, is_wait, is_left, at, found) refl in
+    let less : length (remove rests i) + 1 ≡ length rests = length-remove rests i first.within in
+    last_rests-few (left ++ r ∷ []) (omega (arith, length-append left (r ∷ []), ap length is_left, less, few)) ∙ ap last_rests one
+
+-- a key that was not, with room for it
+pub after_refusal-first : (key : Key) (error : Option ErrorReply) (now : ℕ) (rests left : List Rest) (wait until : ℕ) → position (is_of key) rests ≡ None → left ≡ rests → length rests < 4096
+    → wait ≡ 5_000_000_000 → until ≡ min (now + wait) (2 ^ 63 - 1)
+    → left ++ record { key = key; wait = wait; until = until; error = error } ∷ [] ≡ after_refusal key error now rests
+after_refusal-first key error now rests left wait until none is_left few is_wait is_until =
+    let unknown = rest_with-none key rests none in
+    let r : Rest = record { key = key; wait = wait; until = until; error = error } in
+    let one : left ++ r ∷ [] ≡ without_rest key rests ++ new_rest key error now rests ∷ [] = rw (is_until, is_wait, is_left, none, unknown) refl in
+    last_rests-few (left ++ r ∷ []) (omega (arith, length-append left (r ∷ []), ap length is_left, few)) ∙ ap last_rests one
+
+-- and without
+pub after_refusal-full : (key : Key) (error : Option ErrorReply) (now : ℕ) (rests left : List Rest) (wait until : ℕ) → position (is_of key) rests ≡ None → left ≡ remove rests 0 → length rests ≡ 4096
+    → wait ≡ 5_000_000_000 → until ≡ min (now + wait) (2 ^ 63 - 1)
+    → left ++ record { key = key; wait = wait; until = until; error = error } ∷ [] ≡ after_refusal key error now rests
+after_refusal-full key error now rests left wait until none is_left full is_wait is_until =
+    let unknown = rest_with-none key rests none in
+    let r : Rest = record { key = key; wait = wait; until = until; error = error } in
+    let one : rests ++ r ∷ [] ≡ without_rest key rests ++ new_rest key error now rests ∷ [] = rw (is_until, is_wait, none, unknown) refl in
+    rw is_left (last_rests-full rests r full) ∙ ap last_rests one

@@ -1,0 +1,9 @@
+pub mod Addresses
+pub mod Keys
+pub mod Replies
+pub mod Rests
+pub mod Rounds
+pub mod Rows
+pub mod Settings
+pub mod SocketErrors
+pub mod Suspicion

@@ -1,0 +1,29 @@
+//! What decides whether a relay lives, in parts that hold no client: how soon a refused request is made again, whether the path
+//! to the server still carries packets, and whether the server still knows the allocation. There is no IO: the caller passes in
+//! times and what it has received, and each part says what is due.
+//!
+//! ```text
+//!  a refusal             -- refused --> Rests         -- rest_of --> not before this time
+//!  a check of the path   -- new ------> Round         -- poll -----> a request, a time, unanswered
+//!  an error, over UDP    -- failed ---> SocketErrors  -- poll -----> a Binding request, a time, the end
+//!  a doubt, an answer    -- doubt ----> Suspicion     -- poll -----> a signed request, a time, the end
+//! ```
+//!
+//! [`keys::Key`] names what is requested, [`answers::Answer`] is how a session answers, and [`answers::Outcome`] what became of a
+//! request. [`events::Event`] is what a session reports, and [`causes::Why`] why it ends.
+#![tactic(auto)]
+
+pub mod answers;
+pub mod causes;
+pub mod constants;
+pub mod doubted;
+pub mod events;
+pub mod keys;
+pub mod probed;
+pub mod replies;
+pub mod rests;
+pub mod round;
+pub mod settings;
+pub mod socket_errors;
+pub mod suspicion;
+pub mod tags;
