@@ -1,5 +1,8 @@
 pub mod Addresses
+pub mod Credentials
+pub mod FullStream
 pub mod Keys
+pub mod Probes
 pub mod Replies
 pub mod Rests
 pub mod Rounds

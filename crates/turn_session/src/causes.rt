@@ -16,7 +16,7 @@ pub enum Why {
     Refused(ErrorReply),
     /// The server refused user name and password: 401 or 400 to the signed ALLOCATE.
     WrongCredentials(ErrorReply),
-    /// The server granted the ALLOCATE without a challenge, so nobody signed the response.
+    /// The server granted the ALLOCATE without a challenge, so its response was not signed.
     Unauthenticated,
     /// The server granted no address of a requested family.
     NoUsableAddress,
@@ -36,7 +36,7 @@ pub enum Why {
     GrantSilent(Key),
     /// The server no longer accepts user name and password.
     CredentialsRefused,
-    /// The socket reported errors, the last of which is this one, and nothing was received.
+    /// The socket reported errors, of which this was the first, and nothing was received.
     SocketErrors(Tag),
     /// The stream was closed by the server, or with this error.
     SocketEnded(Option<Tag>),

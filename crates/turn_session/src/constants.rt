@@ -37,8 +37,8 @@ pub const SENDING: u64 = 10_000_000_000;
 /// A stream that takes no bytes for so long, while nothing is received, has ended.
 pub const FULL: u64 = 60_000_000_000;
 
-/// How long a check of the allocation waits for a response: with three of them a forgotten allocation is noticed in 9 s, and a
-/// request alone takes up to 39.5 s.
+/// How long a check of the allocation waits for a response. Three of them notice a silent server within 9 s, and one request
+/// times out only after 39.5 s.
 pub const ALLOCATION_CHECK: u64 = 3_000_000_000;
 
 /// The pause between two checks of the allocation that the server answered: this long at first, and then twice as long each

@@ -5,8 +5,11 @@
 //! ```text
 //!  a refusal             -- refused --> Rests         -- rest_of --> not before this time
 //!  a check of the path   -- new ------> Round         -- poll -----> a request, a time, unanswered
+//!  the end of a round    -- answered -> Probes        -- due ------> when the next probe begins
 //!  an error, over UDP    -- failed ---> SocketErrors  -- poll -----> a Binding request, a time, the end
+//!  no room, in a stream  -- full -----> FullStream    -- poll -----> a time, the end
 //!  a doubt, an answer    -- doubt ----> Suspicion     -- poll -----> a signed request, a time, the end
+//!  an unsigned 401       -- refused --> Credentials   -- poll -----> a time, the end
 //! ```
 //!
 //! [`keys::Key`] names what is requested, [`answers::Answer`] is how a session answers, and [`answers::Outcome`] what became of a
@@ -16,10 +19,13 @@
 pub mod answers;
 pub mod causes;
 pub mod constants;
+pub mod credentials;
 pub mod doubted;
 pub mod events;
+pub mod full_stream;
 pub mod keys;
 pub mod probed;
+pub mod probes;
 pub mod replies;
 pub mod rests;
 pub mod round;

@@ -8,7 +8,7 @@ ghost use Rattle.turn_session.specs.declared.round.CheckRequest.TheVariants.{Bar
 ghost use Rattle.turn_session.specs.declared.round.RoundStep.TheVariants.{Send, Unanswered, WaitUntil};
 ghost use Rattle.turn_stun.specs.declared.transport.TransportType.TheVariants.{Tcp, Udp};
 
-/// A probe that nobody answers. Over UDP it sends Binding requests at 0 and 0.5 s and a bare CREATE_PERMISSION at 1.5 s, and
+/// A probe without a response. Over UDP it sends Binding requests at 0 and 0.5 s and a bare CREATE_PERMISSION at 1.5 s, and
 /// over a stream one of each; either is over at 3.5 s.
 pub fn a_probe_is_unanswered()
     ensures udp { polled_round Udp (0 ∷ 0 ∷ 500_000_000 ∷ 1_500_000_000 ∷ 3_499_999_999 ∷ 3_500_000_000 ∷ []) (begun_at Both 0)

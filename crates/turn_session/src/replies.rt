@@ -10,7 +10,7 @@ pub const MAX_PHRASE: usize = 127;
 
 /// The reason phrase of an error response: its first 127 bytes (RFC 8489, section 14.8).
 ///
-/// Nobody has checked that they are UTF-8 or printable, and a longer phrase may be cut within a character.
+/// They need not be UTF-8 or printable, and a longer phrase may be cut within a character.
 #[derive(Clone, Copy, Debug, PartialEq, Eq)]
 pub struct Phrase {
     bytes: [u8; MAX_PHRASE],

@@ -19,7 +19,7 @@ pub enum Asks {
     Bare,
 }
 
-/// A request of a round. Nobody signs it, and it changes nothing.
+/// A request of a round. It is not signed, and changes nothing.
 #[derive(Clone, Copy, Debug, PartialEq, Eq)]
 pub enum CheckRequest {
     /// A Binding request (RFC 8489, section 12).
@@ -51,7 +51,7 @@ pub struct Round {
 }
 
 impl Round {
-    /// A round that begins now, with its first request.
+    /// A round that begins now: its first request is due.
     pub fn new(asks: Asks, now: Instant) -> Round
         ensures { result ≡ begun_at asks now }
     {

@@ -1,4 +1,4 @@
-//! Whether the server still knows the allocation: it is asked by a signed request where something makes one doubt it.
+//! Whether the server still knows the allocation: a signed request asks it when there is a doubt.
 
 ghost use Rattle.std.specs.Prelude.{◌≡◌};
 ghost use Rattle.turn_session.specs.Suspicion.{after_answer, after_doubt, after_move, begin_step, check_deadline, check_time, is_forgotten, no_doubt, pause_after, suspicion_step};
@@ -13,7 +13,8 @@ use turn_stun::instant::Instant;
 /// What a doubt of the allocation leads to.
 #[derive(Clone, Copy, Debug, PartialEq, Eq)]
 pub enum DoubtStep {
-    /// A permission is to be requested that permits nobody. Only a server that knows the allocation grants or denies it.
+    /// A permission is to be requested for an address that no host has. Only a server that knows the allocation grants or
+    /// denies it.
     Ask,
     /// Nothing before this time.
     WaitUntil(Instant),
@@ -52,7 +53,7 @@ impl Suspicion {
         }
     }
 
-    /// Something makes one doubt the allocation: it is checked after the pause.
+    /// The allocation is in doubt: it is checked after the pause.
     pub fn doubt(&mut self)
         ensures { self.new ≡ after_doubt self.old }
     {
