@@ -1,6 +1,6 @@
 -- What refusals make of the keys that rest.
-use Rattle.std.proofs.Common.{◌≡◌, ℕ, zero, suc, ◌+◌, ◌-◌, ◌*◌, ◌^◌, ◌<◌, ◌≤◌, Bool, true, false, List, [], ◌∷◌, ◌++◌, length, take, drop, min, get_or, Some, None, refl, sym, ap, ◌∙◌, inl, inr, arith, ltb}
-use Rattle.std.specs.Prelude.{slice_get, is_some, IsSome, Option, remove}
+use Rattle.std.proofs.Common.{◌≡◌, ℕ, ◌+◌, ◌-◌, ◌*◌, ◌^◌, ◌<◌, ◌≤◌, Bool, true, false, List, [], ◌∷◌, ◌++◌, length, drop, min, get_or, Some, None, refl, sym, ap, ◌∙◌, inl, inr, arith, ltb}
+use Rattle.std.specs.Prelude.{is_some, IsSome, Option, remove}
 use Rattle.std.specs.List.{position, position_or_len, find}
 use Rattle.std.proofs.lemmas.Bool.{cases_Bool, ltb-true, ltb-false}
 use Rattle.std.proofs.lemmas.List.{length-append}
@@ -8,7 +8,7 @@ use Rattle.std.proofs.lemmas.List.Edits.{length-remove}
 use Rattle.std.proofs.lemmas.List.Folds.{find_at}
 use Rattle.std.proofs.lemmas.Option.{cond_some, slice_get-get_or, slice_get_past, none-some}
 use Rattle.turn_session.specs.Keys.{same_key}
-use Rattle.turn_session.specs.Rests.{after_refusal, last_rests, new_rest, next_wait, rest_in_force, rest_with, without_rest}
+use Rattle.turn_session.specs.Rests.{after_refusal, last_rests, new_rest, rest_in_force, rest_with, without_rest}
 use Rattle.turn_session.specs.declared.keys.Key.{Key}
 use Rattle.turn_session.specs.declared.replies.ErrorReply.{ErrorReply}
 use Rattle.turn_session.specs.declared.rests.Rest.{Rest}

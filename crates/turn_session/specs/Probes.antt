@@ -1,7 +1,6 @@
 -- When the path to the server is probed.
 use Rattle.std.specs.Prelude.{ℕ, ◌+◌, ◌-◌, ◌^◌, min, max, nat_le, Bool, true, false, if◌then◌else◌}
 use Rattle.turn_session.specs.declared.probes.Probes.{Probes}
-use Rattle.turn_session.specs.declared.round.Asks.{Asks}
 use Rattle.turn_session.specs.declared.round.Asks.TheVariants.{Both, Bare}
 use Rattle.turn_session.specs.declared.round.CheckRequest.{CheckRequest}
 use Rattle.turn_session.specs.declared.round.CheckRequest.TheVariants.{Binding, BarePermission}

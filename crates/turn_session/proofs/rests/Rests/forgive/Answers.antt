@@ -1,4 +1,4 @@
-use Rattle.std.proofs.Common.{◌≡◌, List, Some, None, sym, ap, ◌∙◌}
+use Rattle.std.proofs.Common.{◌≡◌, List, None, sym, ap, ◌∙◌}
 use Rattle.std.specs.Prelude.{remove}
 use Rattle.std.specs.List.{position}
 use Rattle.turn_session.specs.declared.rests.Rest.{Rest}
