@@ -93,12 +93,20 @@ class Situations(unittest.TestCase):
             self.assertLess(found["took"], limit(situation.seconds))
 
     def try_all(self, names: Sequence[str]) -> None:
-        with tempfile.TemporaryDirectory() as room, ThreadPoolExecutor(JOBS) as pool:
-            make_certificates(pathlib.Path(room))
-            running = [(it, pool.submit(self.found, it, pathlib.Path(room))) for it in names]
+        """Side by side, and those that go wrong once more, alone: on a busy machine a packet may be late, and the alert of a server
+        that refuses TLS is lost where its reset comes first."""
+        with tempfile.TemporaryDirectory() as room:
+            certs = pathlib.Path(room)
+            make_certificates(certs)
+            with ThreadPoolExecutor(JOBS) as pool:
+                running = [(it, pool.submit(self.found, it, certs)) for it in names]
             for name, found in running:
                 with self.subTest(name):
-                    self.judge(name, found.result())
+                    try:
+                        self.judge(name, found.result())
+                    except AssertionError as error:
+                        print(f"{name}: once more, since {str(error)[:200]}", file=sys.stderr)
+                        self.judge(name, self.found(name, certs))
 
     def test_quick_ones(self) -> None:
         named = os.environ.get("YARROWDOOR_SITUATION")
