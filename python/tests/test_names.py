@@ -72,6 +72,9 @@ class Names(unittest.IsolatedAsyncioTestCase):
 
     async def test_silent_name_servers(self) -> None:
         """They hold no thread of the program, and one look-up of a name serves all who ask for it."""
+        loop = asyncio.get_running_loop()
+        if type(loop).getaddrinfo is not asyncio.BaseEventLoop.getaddrinfo:
+            self.skipTest("this event loop looks names up by itself")
         real, answers, asked = socket.getaddrinfo, threading.Event(), []  # type: Any, threading.Event, List[str]
         self.addCleanup(answers.set)
 
@@ -87,9 +90,10 @@ class Names(unittest.IsolatedAsyncioTestCase):
         with unittest.mock.patch("socket.getaddrinfo", silent):
             names = [f"{number}.example.org" for number in range(40)]
             opening = [asyncio.ensure_future(TurnClient(f"turn:{it}", "user", "pass").open()) for it in 2 * names]
-            while len(asked) < len(names):
+            for _ in range(1000):
+                if len(asked) == len(names):
+                    break
                 await asyncio.sleep(0.01)
-            loop = asyncio.get_running_loop()
             await asyncio.wait_for(loop.run_in_executor(None, time.monotonic), 5)
             answers.set()
             failed = await asyncio.wait_for(asyncio.gather(*opening, return_exceptions=True), 10)
