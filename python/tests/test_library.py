@@ -1,4 +1,5 @@
 """The library through `library.py` and `client.py`: what it answers, what it refuses, and that nothing is kept."""
+import contextlib
 import ctypes
 import gc
 import os
@@ -140,6 +141,29 @@ class Refusals(unittest.TestCase):
 
 class Ownership(unittest.TestCase):
     """A client is used by one thread at a time, and is freed once."""
+
+    def test_a_client_that_was_closed_is_not_shared(self) -> None:
+        """It is freed, and a function that calls it would read memory that is another's."""
+        client = new_client()
+        client.close()
+        with self.assertRaisesRegex(ValueError, "the client was closed"):
+            client.shared()
+
+    def test_a_client_that_is_closed_while_it_is_shared(self) -> None:
+        """`close` before each step of `shared`: either nothing is shared, or what is shared is not freed."""
+        def share() -> None:
+            with contextlib.suppress(ValueError):
+                shared.append(client.shared())
+
+        are_freed: List[bool] = []
+        has_run = True
+        while has_run:
+            client, shared = new_client(), []  # type: sans_io.Client, List[object]
+            has_run = interrupt(share, len(are_freed), {handle.__file__, sans_io.__file__}, client.close)
+            are_freed.append(not client._handle._finalizer.alive)
+            self.assertFalse(shared and are_freed[-1])
+        self.assertGreater(len(are_freed), 10)
+        self.assertIn(True, are_freed)
 
     def test_a_second_thread_gets_an_error(self) -> None:
         within = CallingLibrary()

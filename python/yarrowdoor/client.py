@@ -167,7 +167,7 @@ class Client:
 
     def shared(self) -> Callable[[AddressLike, Buffer, int], bytes]:
         """A function like `data_to` for any thread, also while another one uses this client, and for a handler of a signal. What it
-        is made of is freed with the client and this function, and not by `close`."""
+        is made of is freed with the client and this function, and not by `close`. `ValueError` after `close`."""
         share = self._handle.sharing(self._relay_way)
 
         def data_to(peer: AddressLike, data: Buffer, now: int) -> bytes:

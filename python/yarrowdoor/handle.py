@@ -280,8 +280,13 @@ class Handle:
 
     def sharing(self, transport: int) -> Share:
         """The call SEND_TO for any thread, also while another one is in a call, and for a signal's handler in the midst of one. The
-        interpreter's lock, which a call of the library keeps, has one made after the other, and each has memory of its own."""
+        interpreter's lock, which a call of the library keeps, has one made after the other, and each has memory of its own.
+        `ValueError` after `free`."""
+        # First this, and then the look: `free`, in another thread or a handler, does it the other way round, so that either it
+        # frees nothing or this is refused.
         self._is_shared = True
+        if self._is_free:
+            raise ValueError("the client was closed")
         rooms: List[_Envelope] = []
 
         def send(now: int, peer: bytes, data: Buffer) -> Union[bytes, int]:

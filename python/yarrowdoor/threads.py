@@ -194,7 +194,10 @@ class ThreadClient(TurnClient):
             raise ValueError("relay='tcp' has streams: use connect, or accept")
         sender = self._sender
         if sender is None or sender[0] is not session:
-            sender = self._sender = session, session.client.shared()
+            try:
+                sender = self._sender = session, session.client.shared()
+            except ValueError:  # It was closed since its phase was read.
+                raise self.ending() from None
         try:
             packet = sender[1](peer, data, self._clock.now())
         except Refused:
