@@ -68,6 +68,7 @@ check_memory() {
 }
 
 test_start() {
+    local installed="$room/in stalled" # by test_installed, in installed.sh
     local arm=aarch64-linux-gnu-gcc emulator=(qemu-aarch64 -L /usr/aarch64-linux-gnu)
     step "memory functions" check_memory ""
     step "programs start over a library over the library" check_starts "$room/start" "$dist" cc
