@@ -68,8 +68,8 @@ static void make_client(const char *user, const char *password)
     settings.family = peer.family; /* the relayed address has the peer's IP version */
     /* a NAT forgets a path that is silent for a while, some after 30 s, and with it the server's way to this socket */
     settings.keepalive = 15000000000;
-    /* grants are refreshed two minutes before they expire, so that a link that is down for one loses none */
-    settings.refresh_ahead = 120000000000;
+    /* grants are refreshed two and a half minutes before they expire, so that a link that is down for one loses none */
+    settings.refresh_ahead = 150000000000;
     if (getentropy(seed, sizeof seed) != 0) {
         stop(strerror(errno));
     }

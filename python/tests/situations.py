@@ -277,7 +277,9 @@ def main(name: str, room: str, certs: str) -> None:
     situation = ALL[name]
     kept = {it: value for it, value in os.environ.items() if not it.startswith("YARROWDOOR_") or it == "YARROWDOOR_LIB"}
     with _running(situation, room, certs):
-        words = [sys.executable, "-m", "yarrowdoor", "check", *situation.words.format(certs=certs).split(), "--json"]
+        # YARROWDOOR_COVERED: the words with which coverage runs a module, to note which lines the check reaches.
+        covered = os.environ.get("YARROWDOOR_COVERED", "").split()
+        words = [sys.executable, *covered, "-m", "yarrowdoor", "check", *situation.words.format(certs=certs).split(), "--json"]
         # A machine that does much else answers later, where it answers.
         words += ["--timeout", str(min(4.0, limit(1.5)))] if not situation.odd else []
         begun = time.monotonic()

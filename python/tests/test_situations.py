@@ -25,6 +25,8 @@ EC = ("-newkey", "ec", "-pkeyopt", "ec_paramgen_curve:prime256v1")
 # With delays of seconds, or hundreds of packets that are waited for.
 SLOW = ("answers too late", "far away", "hangs over TCP", "policer", "much loss", "relay over IPv6 only", "nonces of a second",
         "NAT that is right", "relay at another address", "rejected over UDP", "certificate for a name", "resets")
+# What a check does not name in each run: the reset of a server that refuses old TLS may come before its alert is read.
+UNSURE = ("old TLS",)
 
 
 def has_namespaces() -> bool:
@@ -110,7 +112,7 @@ class Situations(unittest.TestCase):
 
     def test_quick_ones(self) -> None:
         named = os.environ.get("YARROWDOOR_SITUATION")
-        self.try_all(named.split(",") if named else [it for it in situations.ALL if it not in SLOW])
+        self.try_all(named.split(",") if named else [it for it in situations.ALL if it not in SLOW + UNSURE])
 
     @unittest.skipUnless(os.environ.get("YARROWDOOR_SLOW"), "it is slow: set YARROWDOOR_SLOW=1")
     def test_slow_ones(self) -> None:

@@ -54,8 +54,8 @@ impl Caller {
         config.set_address_family(AddressFamily::from(peer));
         // a NAT forgets a path that is silent for a while, some after 30 s, and with it the server's way to this socket
         config.set_keepalive(Some(Duration::from_secs(15)));
-        // grants are refreshed two minutes before they expire, so that a link that is down for one loses none
-        config.set_refresh_ahead(Duration::from_secs(120));
+        // grants are refreshed two and a half minutes before they expire, so that a link that is down for one loses none
+        config.set_refresh_ahead(Duration::from_secs(150));
         Ok(Caller {
             client: TurnClientUdp::allocate(socket.local_addr()?, server, config),
             socket,
