@@ -5,20 +5,21 @@ use Rattle.turn_client_laws.proofs.Machine.{Transaction, State, is_kept, pause_e
 use Rattle.turn_client_laws.proofs.Machine.{family_of_grant, is_for, same_ip, next_transmit, PollTransmit, state_after, state_after_all, Call, Has, all-has, has-all, same_ip-true}
 use Rattle.turn_client_laws.proofs.Laws.{room-of, is_double, contains-has, has-contains}
 use Rattle.turn_client_runs.specs.LastingRuns.{LastsThrough}
-use Rattle.turn_client_runs.specs.Late.{HasRoomBehind, IsReady, IsReservedChannel, IsSteadyBehind, OnTimeIsLateByNone, RunsBehind, since_next}
+use Rattle.turn_client_runs.specs.Late.{HasRoomBehind, IsLate, IsReady, IsReservedChannel, IsSteadyBehind, OnTimeIsLateByNone, RunsBehind, since_next}
 use Rattle.turn_client_runs.specs.Lasting.{with_expiry, IsRequested, RequestsSucceed, as_granted, GrantsLast, HasRoom, HasStill, IsInForce, IsSteady, IsFresh, RunsSteadily, ahead_of, expiry_of}
-use Rattle.turn_client_runs.specs.OnTime.{time_of, time_of_all}
+use Rattle.turn_client_runs.specs.OnTime.{IsOnTime, time_of, time_of_all}
 use Rattle.turn_client_laws.proofs.Laws.{IsReserved}
 use Rattle.turn_client_laws.proofs.Machine.{Reserved}
 use Rattle.turn_client_laws.proofs.Common.{All}
-use Rattle.turn_client_runs.specs.History.{History, IsKeptBy, no_history, was_let_go, with_call, with_calls}
+use Rattle.turn_client_runs.specs.History.{History, IsKeptBy, no_history, was_let_go, with_call}
 use Rattle.turn_client_runs.proofs.LastingStands.{due_of, early-paced, granted-active, leased-active, let_go-became, IsActive, Follows, IsWell, is_waiting, AreSingle, IsGranted, IsKept, IsUnique}
 use Rattle.turn_client_runs.proofs.LastingStands.{Lag, Stands, not-waiting, pause-le, pause-paced, stands-early, taken}
 use Rattle.turn_client_runs.proofs.LastingCounts.{passes}
 use Rattle.turn_client_runs.proofs.LastingTransmits.{reserved-inactive}
 use Rattle.turn_client_runs.proofs.LastingExpiry.{reserved-waits}
-use Rattle.turn_client_runs.proofs.LastingSpared.{kept-spared, none-by, pending-spared, runs-alike, spared-none, sparing}
-use Rattle.turn_client_runs.proofs.LastingRuns.{KeepsAll, all-kept, halves, joined}
+use Rattle.turn_client_runs.proofs.LastingSpared.{kept-spared, pending-spared, spared-none, sparing}
+use Rattle.turn_client_runs.proofs.LastingRuns.{KeepsAll, joined}
+use Rattle.turn_client_runs.proofs.LastingWays.{Behind, Way, all-kept, behind-way, halves, none-by, onwards}
 use Rattle.turn_client_runs.proofs.GrantInputs.{IsLeased}
 
 -- ---- the first state
@@ -190,8 +191,9 @@ fresh-stands count slots extras lag delay now past s k g there granted leased fr
     unasked true e = let due = (k.known g there).1 leased e in absurd (omega (arith, due, fresh))
 
 -- the rest of a run, in which the grant is not let go
-module _ (count slots extras : ℕ) (lag : Lag) (delay between : ℕ) (mid_past : History) (mid : State) (kept-mid : IsKept count slots extras lag delay between mid_past mid.transactions mid) (later : List Call)
-    (run : RunsBehind count slots extras lag.late delay lag.since between mid_past mid later) (g : Grant) (here : Has g mid.grants) (kept : IsKeptBy later between mid g) where
+module _ (count slots extras delay : ℕ) (Runs : ℕ → ℕ → ℕ → History → State → List Call → Type 0) (onward : Call → ℕ → State → History → History) (way : Way count slots extras delay Runs onward)
+    (lag : Lag) (between : ℕ) (mid_past : History) (mid : State) (kept-mid : IsKept count slots extras lag delay between mid_past mid.transactions mid) (later : List Call)
+    (run : Runs lag.late lag.since between mid_past mid later) (g : Grant) (here : Has g mid.grants) (kept : IsKeptBy later between mid g) where
   abbrev last : ℕ
   last = time_of_all between later
 
@@ -203,10 +205,10 @@ module _ (count slots extras : ℕ) (lag : Lag) (delay between : ℕ) (mid_past 
   spared = sparing g mid_past
 
   abbrev end_past : History
-  end_past = with_calls later between mid spared
+  end_past = onwards onward later between mid spared
 
   end-spares : was_let_go end_past g ≡ false
-  end-spares = none-by later between mid spared g (spared-none g mid_past) kept
+  end-spares = none-by count slots extras delay Runs onward way later between mid spared g (spared-none g mid_past) kept
 
   -- it stands, or waits and is kept, whatever was let go before
   abbrev IsSure : Type 0
@@ -214,8 +216,8 @@ module _ (count slots extras : ℕ) (lag : Lag) (delay between : ℕ) (mid_past 
 
   at-end : IsSure → (since : ℕ) × KeepsAll count slots extras (taken since lag) delay last spared end_past mid end
   at-end sure =
-      all-kept count slots extras lag delay between spared mid later (kept-spared count slots extras lag delay between mid_past mid kept-mid g here sure)
-      (runs-alike count slots extras lag.late delay lag.since between mid_past spared mid later (λ id. refl) refl refl run)
+      all-kept count slots extras delay Runs onward way lag between spared mid later (kept-spared count slots extras lag delay between mid_past mid kept-mid g here sure)
+      (way.alike lag.late lag.since between mid_past spared mid later (λ id. refl) refl refl run)
 
   -- how the caller lags behind at the end
   abbrev last_lag : IsSure → Lag
@@ -271,15 +273,25 @@ module _ (count slots extras : ℕ) (lag : Lag) (delay between : ℕ) (mid_past 
       by (inr (inr (inl (freed, leased)))) = active (leased-active g leased)
       by (inr (inr (inr (is, none)))) = absurd (reserved-waits g is waits.0)
 
+none-yet : (s : State) (g : Grant) → was_let_go (no_history s) g ≡ false
+none-yet s (Permission ip progress) = refl
+none-yet s (Channel number peer progress) = refl
+none-yet s g = refl
+
 -- of the calls of the second part alone
-pub lasts-through : (count slots extras late delay now : ℕ) (s : State) (before after : List Call) → IsSteadyBehind count slots extras late delay now s
-    → RunsBehind count slots extras late delay now now (no_history s) s (before ++ after)
+pub lasts-through : (count slots extras delay : ℕ) (Runs : ℕ → ℕ → ℕ → History → State → List Call → Type 0) (onward : Call → ℕ → State → History → History) → Way count slots extras delay Runs onward
+    → (late now : ℕ) (s : State) (before after : List Call) → IsSteadyBehind count slots extras late delay now s → Runs late now now (no_history s) s (before ++ after)
     → LastsThrough delay now s before after
-lasts-through count slots extras late delay now s before after steady run g there kept =
-    let parts = halves count slots extras (first_lag late now s) delay now (no_history s) s before after (steady-kept count slots extras late delay now s steady) run in
+lasts-through count slots extras delay Runs onward way late now s before after steady run g there kept =
+    let parts = halves count slots extras delay Runs onward way (first_lag late now s) now (no_history s) s before after (steady-kept count slots extras late delay now s steady) run in
+    let lag = taken parts.since (first_lag late now s) in
+    let past = onwards onward before now s (no_history s) in
     let here = contains-has g (state_after_all s before).grants there in (
-      lasts count slots extras (taken parts.since (first_lag late now s)) delay (time_of_all now before) (with_calls before now s (no_history s)) (state_after_all s before) parts.kept after parts.run g here kept,
-      succeeds count slots extras (taken parts.since (first_lag late now s)) delay (time_of_all now before) (with_calls before now s (no_history s)) (state_after_all s before) parts.kept after parts.run g here kept,
+      λ in_force counted. lasts count slots extras delay Runs onward way lag (time_of_all now before) past (state_after_all s before) parts.kept after parts.run g here kept in_force (elim counted [
+        | inl still ↦ inl (none-by count slots extras delay Runs onward way before now s (no_history s) g (none-yet s g) still)
+        | inr fresh ↦ inr fresh
+      ]),
+      succeeds count slots extras delay Runs onward way lag (time_of_all now before) past (state_after_all s before) parts.kept after parts.run g here kept,
     )
 
 -- ---- a caller that is on time
@@ -318,13 +330,26 @@ steady-behind count slots extras delay now s is = behind-of count slots extras 0
     same n cadence ahead h = omega (arith, h)
 
 -- whether a packet is taken or not
-taken-now : (call : Call) (before : ℕ) (s : State) → since_next call s (time_of before call) ≡ time_of before call
+pub taken-now : (call : Call) (before : ℕ) (s : State) → since_next call s (time_of before call) ≡ time_of before call
 taken-now (PollTransmit now) before s = by (is_some (next_transmit now s))
   where
     by : (b : Bool) → cond b now now ≡ now
     by true = refl
     by false = refl
 taken-now call before s = refl
+
+-- a caller that is on time is late by no more than any time
+pub late-at : (late before now : ℕ) (s : State) → IsOnTime before now s → IsLate late before before now now s
+late-at late before now s is = record {
+  later = is.later;
+  in_range = is.in_range;
+  from = is.later;
+  begun = omega arith;
+  soon = omega arith;
+  free = λ time after early.
+      let same : max time before ≡ time = omega (arith, after) in
+      subst (λ (t : ℕ). next_transmit t s ≡ None) (sym same) (is.punctual time after early);
+}
 
 -- so it is with any lateness
 pub runs-behind : (count slots extras late delay before : ℕ) (past : History) (s : State) (calls : List Call) → RunsSteadily count slots extras delay before past s calls
@@ -333,16 +358,7 @@ runs-behind count slots extras late delay before past s [] run = tt
 runs-behind count slots extras late delay before past s (call ∷ calls) (in_time, quiet, within, seldom, run) = (
   time_of before call,
   record {
-    caller = record {
-      later = in_time.on_time.later;
-      in_range = in_time.on_time.in_range;
-      from = in_time.on_time.later;
-      begun = omega arith;
-      soon = omega arith;
-      free = λ time after early.
-          let is : max time before ≡ time = omega (arith, after) in
-          subst (λ (t : ℕ). next_transmit t s ≡ None) (sym is) (in_time.on_time.punctual time after early);
-    };
+    caller = late-at late before (time_of before call) s in_time.on_time;
     answered = in_time.answered;
   },
   inl quiet,
@@ -364,7 +380,8 @@ module _ (count slots extras delay now : ℕ) (s : State) (earlier later : List 
 
   both : (IsInForce (time_of_all now earlier) g → IsKeptBy earlier now s g ⊎ IsFresh (time_of_all now earlier) (state_after_all s earlier) g → Ends (state_after_all (state_after_all s earlier) later))
       × (IsRequested g → time_of_all now earlier + delay < time_of_all (time_of_all now earlier) later → Ends (state_after_all (state_after_all s earlier) later))
-  both = lasts-through count slots extras 0 delay now s earlier later (steady-behind count slots extras delay now s steady)
+  both = lasts-through count slots extras delay (Behind count slots extras delay) with_call (behind-way count slots extras delay) 0 now s earlier later
+      (steady-behind count slots extras delay now s steady)
       (runs-behind count slots extras 0 delay now (no_history s) s (earlier ++ later) run) g there kept
 
   ends : Ends (state_after_all (state_after_all s earlier) later) → Ends (state_after_all s (earlier ++ later))

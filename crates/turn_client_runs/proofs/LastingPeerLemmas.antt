@@ -3,10 +3,11 @@ use Rattle.turn_client_laws.proofs.Common.{◌≡◌, ℕ, ◌+◌, ◌<◌, ◌
 use Rattle.turn_client_laws.proofs.Common.{ne_eqb}
 use Rattle.turn_client_laws.proofs.Machine.{IPV4, HasAllocation, granted_until, new_allocation, family_of, same_ip, State, seconds, Grant, Allocation, Channel, Connect, Connection, Offer, Permission}
 use Rattle.turn_client_laws.proofs.Machine.{Has, all-has, has-all}
+use Rattle.turn_client_laws.specs.LawsRows.{refreshing_ahead}
 use Rattle.turn_client_laws.proofs.Laws.{is_double, relayed_v4, contains-has}
 use Rattle.turn_client_runs.specs.History.{no_history, was_let_go}
 use Rattle.turn_client_runs.specs.Lasting.{HasRoom, IsInForce, IsSteady, ahead_of, expiry_of}
-use Rattle.turn_client_runs.specs.LastingPeers.{HasRoomAt5Ms, HaveOwnIps, PeersLast, grants_for, with_peers, HasRoomLateAt5Ms}
+use Rattle.turn_client_runs.specs.LastingPeers.{HasRoomAt5Ms, HaveOwnIps, PeersLast, PeersLastFarAhead, grants_for, with_peers, HasRoomLateAt5Ms}
 use Rattle.turn_client_runs.specs.Late.{HasRoomBehind, IsSteadyBehind}
 use Rattle.turn_client_runs.proofs.LastingParts.{behind-of}
 use Rattle.turn_client_runs.proofs.LastingSeen.{grants-last-behind}
@@ -127,6 +128,33 @@ module _ (peers : List SocketAddr) (s : State) (many : length peers ≡ 4096) (o
       (all-of (λ g. HasRoomBehind 8193 100 1000 900_000 5_000_000 5_000_000_000 (ahead_of 60_000_000_000 g)) 0x4000 peers (omega arith) (λ n peer there. omega arith) (λ peer there. omega arith))
       (omega arith)
 
+  abbrev far : State
+  far = refreshing_ahead 150_000_000_000 t
+
+  begins-far : IsSteady 8193 100 8193 5_000_000_000 0 far
+  unfolding IsDistinct
+  begins-far = record {
+    allocated = refl;
+    none_queued = refl;
+    none_outstanding = refl;
+    none_listed = refl;
+    sent_before = omega arith;
+    in_force = begins.in_force;
+    none_late = all-of (λ g. 0 + ahead_of 150_000_000_000 g ≤ expiry_of g) 0x4000 peers (omega arith) (λ n peer there. omega arith) (λ peer there. omega arith);
+    room = all-of (λ g. HasRoom 8193 100 8193 5_000_000 5_000_000_000 (ahead_of 150_000_000_000 g)) 0x4000 peers (omega arith) (λ n peer there. omega arith) (λ peer there. omega arith);
+    room_for_more = omega arith;
+    within = begins.within;
+    distinct = begins.distinct;
+    in_allocations = begins.in_allocations;
+    prompt = omega arith;
+    in_range = omega arith;
+  }
+
+  far-late : IsSteadyBehind 8193 100 8193 2_000_000 5_000_000_000 0 far
+  far-late = behind-of 8193 100 8193 2_000_000 5_000_000_000 0 far begins-far
+      (all-of (λ g. HasRoomBehind 8193 100 8193 2_000_000 5_000_000 5_000_000_000 (ahead_of 150_000_000_000 g)) 0x4000 peers (omega arith) (λ n peer there. omega arith) (λ peer there. omega arith))
+      (omega arith)
+
   in-force : (g : Grant) → Has g t.grants → IsInForce 0 g
   in-force g there = has-all (IsInForce 0) g t.grants begins.in_force there
 
@@ -146,5 +174,13 @@ peers-last peers s many over_v4 own = record {
   begins_late = begins-late peers s many over_v4 own;
   lasts_late = λ calls run g there kept.
       ((grants-last-behind 8193 100 1000 900_000 5_000_000_000 0 (with_peers peers s) [] calls (begins-late peers s many over_v4 own) run).grants g there kept).0
+      (in-force peers s many over_v4 own g (contains-has g (with_peers peers s).grants there)) (inl (none-let_go (with_peers peers s) g));
+}
+
+pub peers-last-far-ahead : PeersLastFarAhead
+peers-last-far-ahead peers s many over_v4 own = record {
+  begins = far-late peers s many over_v4 own;
+  lasts = λ calls run g there kept.
+      ((grants-last-behind 8193 100 8193 2_000_000 5_000_000_000 0 (far peers s many over_v4 own) [] calls (far-late peers s many over_v4 own) run).grants g there kept).0
       (in-force peers s many over_v4 own g (contains-has g (with_peers peers s).grants there)) (inl (none-let_go (with_peers peers s) g));
 }

@@ -68,10 +68,10 @@ FitsPast past s = (past.extra ≡ []) × All (λ x. past.made x.id ≡ x.last_se
 abbrev Goes : ℕ → State → List Call → Type 0
 Goes before s calls = ((past : History) → FitsPast past s → RunsSteadily 3 1 0 delay before past s calls) × ((state_after_all s calls).grants ≡ refreshed_grants)
 
-seldom-none : (ahead now : ℕ) (past : History) → past.extra ≡ [] → IsSeldom 0 ahead now past
+pub seldom-none : (ahead now : ℕ) (past : History) → past.extra ≡ [] → IsSeldom 0 ahead now past
 seldom-none ahead now past none since within = rw none (omega arith)
 
-no-extra : (call : Call) (now : ℕ) (s : State) (past : History) → past.extra ≡ [] → is_extra call s ≡ false → lost call s ≡ [] → (with_call call now s past).extra ≡ []
+pub no-extra : (call : Call) (now : ℕ) (s : State) (past : History) → past.extra ≡ [] → is_extra call s ≡ false → lost call s ≡ [] → (with_call call now s past).extra ≡ []
 no-extra call now s past none e kept = rw (e, kept, none) refl
 
 answered-in : (now : ℕ) (past : History) (s : State) → FitsPast past s → All (λ x. now ≤ x.last_send + delay) s.transactions → All (λ x. now ≤ past.made x.id + delay) s.transactions
@@ -236,14 +236,14 @@ requesting now id purpose text s = record s {
   last_send = Some now;
 }
 
-fits : (s : State) → s.phase ≡ Allocated → IsSome s.last_send → FitsPhaseForPoll s
+pub fits : (s : State) → s.phase ≡ Allocated → IsSome s.last_send → FitsPhaseForPoll s
 fits s p sent = record {
   nothing_sent = λ new. absurd (let no : Allocated ≡ New = sym p ∙ new in cc);
   sent_before = λ not queued. sent;
   no_grants = λ before. absurd (subst IsBeforeGrants p before);
 }
 
-three-in_allocations : (time a p c : ℕ) (ids : Source) (s : State) → AllHaveAllocation (with_three time a p c ids s)
+pub three-in_allocations : (time a p c : ℕ) (ids : Source) (s : State) → AllHaveAllocation (with_three time a p c ids s)
 three-in_allocations time a p c ids s = all-has (HasAllocation (with_three time a p c ids s)) (with_three time a p c ids s).grants by
   where
     by : (g : Grant) → Has g (with_three time a p c ids s).grants → HasAllocation (with_three time a p c ids s) g
@@ -570,7 +570,7 @@ relay-stays-up s some = record { begins = begins s some; runs = relay-runs s som
 
 -- ---- a caller that is late by 5 ms
 
-all-three : {X : Type 0} (P : X → Type 0) (a b c : X) → P a → P b → P c → All P (a ∷ b ∷ c ∷ [])
+pub all-three : {X : Type 0} (P : X → Type 0) (a b c : X) → P a → P b → P c → All P (a ∷ b ∷ c ∷ [])
 all-three P a b c p q r = all-has P (a ∷ b ∷ c ∷ []) by
   where
     by : (x : _) → Has x (a ∷ b ∷ c ∷ []) → P x

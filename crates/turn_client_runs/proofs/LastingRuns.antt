@@ -11,7 +11,7 @@ use Rattle.turn_client_laws.proofs.Machine.{SetPermissionKept, allocation-there,
 use Rattle.turn_client_laws.proofs.Laws.{any-has, has-any, purpose-with, send_to-by}
 use Rattle.turn_client_api.specs.declared.error.KeepError.{KeepError}
 use Rattle.turn_client_api.specs.declared.error.KeepError.TheVariants.{NotGranted}
-use Rattle.turn_client_runs.specs.Late.{AreAnswered, IsCalm, IsGranting, IsMild, RunsBehind, since_next}
+use Rattle.turn_client_runs.specs.Late.{AreAnswered, IsCalm, IsGranting, IsMild, since_next}
 use Rattle.std.specs.List.{AllByRecursion}
 use Rattle.turn_client_laws.proofs.Laws.{DiffersInStreams, Input, InputsLead, TakesInput, calls-do, handled, processed}
 use Rattle.turn_client_laws.proofs.Machine.{PollRecv, Stream, as_connection, connection_gone, filter-none, without_stream}
@@ -22,8 +22,8 @@ use Rattle.turn_client_runs.proofs.LastingPolls.{filter_map-none}
 use Rattle.turn_client_runs.proofs.LastingNoise.{noise-changes-nothing}
 use Rattle.turn_client_runs.specs.Lasting.{IsAnsweredChallenge, Answers, DatagramsAreMessages, IsQuiet, IsSuccess, expiry_of, HoldsAtMost, SuccessesEndRequests}
 use Rattle.turn_client_runs.proofs.MadeLemmas.{control-made, success-ends}
-use Rattle.turn_client_runs.specs.OnTime.{IsFromServer, time_of, time_of_all}
-use Rattle.turn_client_runs.specs.History.{History, is_replied, IsSeldom, extra_since, is_extra, lost, was_let_go, with_call, with_calls}
+use Rattle.turn_client_runs.specs.OnTime.{IsFromServer, time_of}
+use Rattle.turn_client_runs.specs.History.{History, is_replied, IsSeldom, extra_since, is_extra, lost, was_let_go, with_call}
 use Rattle.turn_client_runs.proofs.LastingStands.{allocation-stands, kept-changed, kept-rest, stands-aside, Goes, IsRequested, goes-more, goes-trans, IsKept, Lag, Stands, stands-early, taken}
 use Rattle.turn_client_runs.proofs.LastingCounts.{passes, passes-length}
 use Rattle.turn_client_runs.proofs.LastingCalls.{Asks, asked-goes, asked-kept, binds, creates}
@@ -39,7 +39,7 @@ use Rattle.turn_client_runs.proofs.LastingReplies.{IsAnswered, IsGiven, all-answ
 
 -- ---- a success is processed
 
-success-judged : (message : List ℕ) (s : State) → s.phase ≡ Allocated → class_in message ≡ Success → IsValidated (validation_of (auth_of s) message)
+pub success-judged : (message : List ℕ) (s : State) → s.phase ≡ Allocated → class_in message ≡ Success → IsValidated (validation_of (auth_of s) message)
     → is_outstanding (id_of message) s.transactions ≡ true
     → judgement_of s message ≡ SignedSuccess
 success-judged message s p c v o = by (validation_of (auth_of s) message) refl v
@@ -188,7 +188,7 @@ module _ (count slots extras : ℕ) (lag : Lag) (delay now : ℕ) (past : Histor
 -- ---- each call
 
 -- no grant and no request changes
-goes-same : (past : History) (s t : State) → t.grants ≡ s.grants → t.transactions ≡ s.transactions → t.listed ≡ s.listed → Goes past past s.transactions t.transactions s t
+pub goes-same : (past : History) (s t : State) → t.grants ≡ s.grants → t.transactions ≡ s.transactions → t.listed ≡ s.listed → Goes past past s.transactions t.transactions s t
 goes-same past s t e f l =
     goes-more past s.transactions t.transactions s t e (λ x h. subst (λ (xs : List Transaction). Has x xs) (sym f) h) (λ m h. subst (λ (ls : List Listing). Has m ls) (sym l) h)
 
@@ -208,12 +208,12 @@ tidy-of count slots extras lag delay now past s k = record {
 }
 
 -- the challenge is answered
-challenge-judged : (message : List ℕ) (challenge : Challenge) (s : State) → s.phase ≡ Allocated
+pub challenge-judged : (message : List ℕ) (challenge : Challenge) (s : State) → s.phase ≡ Allocated
     → class_in message ≡ Error → challenge_in s message ≡ Some challenge → judgement_of s message ≡ Challenged challenge
 challenge-judged message challenge s p c o = rw (p, c, o) refl
 
 -- the request is made again, if it is known
-abbrev retry_step : List ℕ → Challenge → ℕ → State → Outcome × State
+abbrev pub retry_step : List ℕ → Challenge → ℕ → State → Outcome × State
 retry_step message challenge now s =
     option_map_or (λ purpose. (Handled, state_after_retry s (id_of message) purpose challenge now)) (retried (purposes_of (id_of message) s)) (Ignored, s)
 
@@ -273,7 +273,7 @@ kept-streams count slots extras lag delay now past xs s streams k = record {
 }
 
 -- Challenges are counted anew, or as before, and then each request that is listed and awaits its reply awaits it still.
-abbrev SameRow : State → State → Type 0
+abbrev pub SameRow : State → State → Type 0
 SameRow s t =
     (t.challenges ≡ 0)
     ⊎ ((t.challenges ≡ s.challenges) × (t.listed ≡ s.listed)
@@ -404,7 +404,7 @@ module _ (count slots extras : ℕ) (lag : Lag) (delay now : ℕ) (past : Histor
   plain-connection g (inr (inl h)) = absurd h
   plain-connection g (inr (inr h)) = absurd h
 
-  leads-end : (call : Call) (s t : State) → Kept_at s → IsStreamEnd call s t → Leads s t
+  pub leads-end : (call : Call) (s t : State) → Kept_at s → IsStreamEnd call s t → Leads s t
   leads-end call s t k end = subst (Leads s) (sym (end.gone ∙ ap (without_stream end.local) stays)) (leads-streams s (without_stream end.local s).streams k)
     where
       none : filter_map as_connection s.grants ≡ []
@@ -769,38 +769,6 @@ call-kept count slots extras lag delay before past s start call k in_time (inl q
 call-kept count slots extras lag delay before past s start call k in_time (inr (takes, mild)) within seldom =
     mild-by count slots extras (taken start lag) delay before past s call takes mild
     (time-kept count slots extras lag delay before start (time_of before call) past s k in_time) seldom
-
-pub all-kept : (count slots extras : ℕ) (lag : Lag) (delay before : ℕ) (past : History) (s : State) (calls : List Call) → IsKept count slots extras lag delay before past s.transactions s
-    → RunsBehind count slots extras lag.late delay lag.since before past s calls
-    → (since : ℕ) × KeepsAll count slots extras (taken since lag) delay (time_of_all before calls) past (with_calls calls before s past) s (state_after_all s calls)
-all-kept count slots extras lag delay before past s [] k run = (lag.since, (k, goes-same past s s refl refl refl))
-all-kept count slots extras lag delay before past s (call ∷ calls) k (start, in_time, quiet, within, seldom, run) =
-    let later = with_call call (time_of before call) s past in
-    let (kept, goes) = call-kept count slots extras lag delay before past s start call k in_time quiet within seldom in
-    let (since, both) = all-kept count slots extras (taken (since_next call s start) lag) delay (time_of before call) later (state_after call s) calls kept run in
-    let (last, as_well) = both in (
-      since,
-      (
-        last,
-        goes-trans past later (with_calls calls (time_of before call) (state_after call s) later) s.transactions (state_after call s).transactions
-            (state_after_all (state_after call s) calls).transactions s (state_after call s) (state_after_all (state_after call s) calls) goes as_well,
-      ),
-    )
-
--- After the first calls of a run all is kept, and the others go on from there.
-pub record Halves (count slots extras : ℕ) (lag : Lag) (delay before : ℕ) (past : History) (s : State) (earlier later : List Call) : Type 0 where
-  pub since : ℕ
-  pub kept : IsKept count slots extras (taken since lag) delay (time_of_all before earlier) (with_calls earlier before s past) (state_after_all s earlier).transactions (state_after_all s earlier)
-  pub run : RunsBehind count slots extras lag.late delay since (time_of_all before earlier) (with_calls earlier before s past) (state_after_all s earlier) later
-
-pub halves : (count slots extras : ℕ) (lag : Lag) (delay before : ℕ) (past : History) (s : State) (earlier later : List Call) → IsKept count slots extras lag delay before past s.transactions s
-    → RunsBehind count slots extras lag.late delay lag.since before past s (earlier ++ later) → Halves count slots extras lag delay before past s earlier later
-halves count slots extras lag delay before past s [] later k run = record { since = lag.since; kept = k; run = run }
-halves count slots extras lag delay before past s (call ∷ earlier) later k (start, in_time, quiet, within, seldom, run) =
-    let (kept, goes) = call-kept count slots extras lag delay before past s start call k in_time quiet within seldom in
-    let rest =
-    halves count slots extras (taken (since_next call s start) lag) delay (time_of before call) (with_call call (time_of before call) s past) (state_after call s) earlier later kept run in
-    record { since = rest.since; kept = rest.kept; run = rest.run }
 
 pub joined : (s : State) (earlier later : List Call) → state_after_all s (earlier ++ later) ≡ state_after_all (state_after_all s earlier) later
 joined s [] later = refl

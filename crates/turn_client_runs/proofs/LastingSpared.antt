@@ -3,7 +3,7 @@ use Rattle.turn_client_laws.proofs.Common.{◌≡◌, ◌⊎◌, ℕ, ◌+◌, �
 use Rattle.turn_client_laws.proofs.Common.{or_cases, or_left, or_right}
 use Rattle.turn_client_laws.proofs.Machine.{id_of, Transaction, is_kept, is_channel_of, is_for, is_permission_of, State, state_after, Call, Recv, Grant, Channel, Permission, Listing, Purpose}
 use Rattle.turn_client_laws.proofs.Machine.{ForChannel, ForPermission, Has, all-has, has-all}
-use Rattle.turn_client_runs.specs.History.{History, challenged_by, first_made, no_history, was_let_go, with_call, with_calls}
+use Rattle.turn_client_runs.specs.History.{History, challenged_by, first_made, was_let_go, with_call}
 use Rattle.turn_client_runs.specs.Late.{IsCalm, RunsBehind, since_next}
 use Rattle.turn_client_runs.specs.Lasting.{IsQuiet}
 use Rattle.turn_client_runs.specs.OnTime.{time_of}
@@ -107,14 +107,14 @@ first-alike : (call : Call) (now : ℕ) (s : State) (past other : History) → (
 first-alike (Recv packet received) now s past other made = rw (made (id_of packet.payload)) refl
 first-alike call now s past other made = refl
 
-call-alike : (call : Call) (now : ℕ) (s : State) (past other : History) → ((id : ℕ) → past.made id ≡ other.made id)
+pub call-alike : (call : Call) (now : ℕ) (s : State) (past other : History) → ((id : ℕ) → past.made id ≡ other.made id)
     → (id : ℕ) → (with_call call now s past).made id ≡ (with_call call now s other).made id
 call-alike call now s past other made id = rw (first-alike call now s past other made, made id) refl
 
-row-alike : (call : Call) (now : ℕ) (s : State) (past other : History) → past.challenged ≡ other.challenged → (with_call call now s past).challenged ≡ (with_call call now s other).challenged
+pub row-alike : (call : Call) (now : ℕ) (s : State) (past other : History) → past.challenged ≡ other.challenged → (with_call call now s past).challenged ≡ (with_call call now s other).challenged
 row-alike call now s past other row = ap (challenged_by call s) row
 
-quiet-alike : (call : Call) (past other : History) (s : State) → past.challenged ≡ other.challenged → IsQuiet call past s → IsQuiet call other s
+pub quiet-alike : (call : Call) (past other : History) (s : State) → past.challenged ≡ other.challenged → IsQuiet call past s → IsQuiet call other s
 quiet-alike (Recv packet now) past other s row (inl success) = inl success
 quiet-alike (Recv packet now) past other s row (inr (inl is)) = inr (inl (record {
   message = is.message;
@@ -152,29 +152,10 @@ runs-alike count slots extras late delay since before past other s (call ∷ cal
         omega (arith, late, same)
 
 -- a call lets go what it does, whatever was before
-call-frees : (call : Call) (now : ℕ) (s : State) (past other : History) (g : Grant) → (was_let_go past g ≡ true → was_let_go other g ≡ true) → was_let_go (with_call call now s past) g ≡ true
+pub call-frees : (call : Call) (now : ℕ) (s : State) (past other : History) (g : Grant) → (was_let_go past g ≡ true → was_let_go other g ≡ true) → was_let_go (with_call call now s past) g ≡ true
     → was_let_go (with_call call now s other) g ≡ true
 call-frees call now s past other (Permission ip progress) more e =
     elim (or_cases (past.permission_let_go ip) _ e) [ inl was ↦ or_left (other.permission_let_go ip) _ (more was) | inr is ↦ or_right (other.permission_let_go ip) _ is ]
 call-frees call now s past other (Channel number peer progress) more e =
     elim (or_cases (past.channel_let_go number peer) _ e) [ inl was ↦ or_left (other.channel_let_go number peer) _ (more was) | inr is ↦ or_right (other.channel_let_go number peer) _ is ]
 call-frees call now s past other g more e = cc
-
-calls-free : (calls : List Call) (before : ℕ) (s : State) (past other : History) (g : Grant)
-    → (was_let_go past g ≡ true → was_let_go other g ≡ true) → was_let_go (with_calls calls before s past) g ≡ true
-    → was_let_go (with_calls calls before s other) g ≡ true
-calls-free [] before s past other g more e = more e
-calls-free (call ∷ calls) before s past other g more e =
-    calls-free calls (time_of before call) (state_after call s) (with_call call (time_of before call) s past) (with_call call (time_of before call) s other) g
-    (call-frees call (time_of before call) s past other g more) e
-
--- what was not let go before, nor by these calls, is not
-pub none-by : (calls : List Call) (before : ℕ) (s : State) (past : History) (g : Grant) → was_let_go past g ≡ false → was_let_go (with_calls calls before s (no_history s)) g ≡ false
-    → was_let_go (with_calls calls before s past) g ≡ false
-none-by calls before s past g was none = by (was_let_go (with_calls calls before s past) g) refl
-  where
-    by : (b : Bool) → was_let_go (with_calls calls before s past) g ≡ b → was_let_go (with_calls calls before s past) g ≡ false
-    by false e = e
-    by true e =
-        let no : false ≡ true = sym none ∙ calls-free calls before s past (no_history s) g (λ is. let no : false ≡ true = sym was ∙ is in cc) e in
-        cc

@@ -3,6 +3,7 @@ pub mod AddressInputs
 pub mod AllStepsLemmas
 pub mod AppendLemmas
 pub mod AskedFamilies
+mod AskedRelayLemmas
 pub mod AskedLemmas
 pub mod AskedPeers
 pub mod BoundLemmas
@@ -10,6 +11,7 @@ pub mod BusyLemmas
 pub mod CallGrants
 pub mod ChallengeLemmas
 pub mod ComingLemmas
+pub mod CutRelayLemmas
 pub mod EventCalls
 pub mod EventInputs
 pub mod EventLemmas
@@ -44,6 +46,8 @@ pub mod LastingRuns
 mod LastingSeen
 mod LastingNoise
 mod LastingGranted
+pub mod LastingPieces
+pub mod LastingWays
 pub mod LastingSends
 pub mod LastingSpared
 pub mod LastingStands

@@ -21,7 +21,8 @@ use Rattle.turn_client_runs.specs.Short.{StreamsAreShort}
 use Rattle.turn_client_runs.proofs.HoldLemmas.{holds-found, reaches-behind}
 use Rattle.turn_client_runs.proofs.LastingRuns.{datagram-message, success-ended}
 use Rattle.turn_client_runs.proofs.LastingSeen.{grants-last-behind}
-use Rattle.turn_client_runs.specs.Late.{IsSteadyBehind, RunsAnswered}
+use Rattle.turn_client_runs.specs.InPieces.{RunsAnswered}
+use Rattle.turn_client_runs.specs.Late.{IsSteadyBehind}
 use Rattle.turn_client_runs.specs.LastingRuns.{GrantsLastInRuns, Lasts}
 use Rattle.turn_client_runs.proofs.OfferRuns.{bound-are-offered}
 use Rattle.turn_client_runs.proofs.InOrderRuns.{inputs-follow}

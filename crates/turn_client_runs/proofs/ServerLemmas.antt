@@ -188,3 +188,22 @@ success-read purpose id s i some = by s.held refl some
       of_method = text-method purpose id i held s e;
       lasts = text-lifetime purpose id i held s e;
     })
+
+-- the reply is a signed success
+pub record IsSignedSuccess (purpose : Purpose) (message : List ℕ) (s : State) : Type 0 where
+  pub whole : is_message message ≡ true
+  pub success : class_in message ≡ Success
+  pub signed : IsValidated (validation_of (auth_of s) message)
+  pub grants : Grants message purpose
+
+pub success-signed : (purpose : Purpose) (id : ℕ) (s : State) → id < 2 ^ 96 → IsSome s.held → IsSignedSuccess purpose (success_for s purpose id) s
+success-signed purpose id s i some = by s.held refl some
+  where
+    by : (o : Option Challenge) → s.held ≡ o → IsSome o → IsSignedSuccess purpose (success_for s purpose id) s
+    by None e h = absurd (let no : false ≡ true = h in cc)
+    by (Some held) e h = subst (λ (bytes : List ℕ). IsSignedSuccess purpose bytes s) (sym (text-is purpose id i held s e)) (record {
+      whole = whole-message (type purpose id i held s e) id (type-in-range purpose) i held.algorithm (key purpose id i held s e);
+      success = text-class purpose id i held s e;
+      signed = text-validated purpose id i held s e;
+      grants = text-grants purpose id i held s e;
+    })

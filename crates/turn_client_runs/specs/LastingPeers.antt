@@ -11,10 +11,11 @@ use Rattle.turn_client_api.specs.Steps.{state_after_all}
 use Rattle.turn_client_api.specs.declared.call.Call.{Call}
 use Rattle.turn_client_api.specs.declared.grant.Grant.{Grant}
 use Rattle.turn_client_api.specs.declared.grant.Grant.TheVariants.{Allocation, Channel, Permission}
-use Rattle.turn_client_laws.specs.LawsRows.{granted_at, pausing, relayed_v4}
+use Rattle.turn_client_laws.specs.LawsRows.{granted_at, pausing, refreshing_ahead, relayed_v4}
 use Rattle.turn_client_runs.specs.History.{IsKeptBy, no_history}
 use Rattle.turn_client_runs.specs.Lasting.{HasRoom, HasStill, IsSteady, RunsSteadily, ahead_of}
-use Rattle.turn_client_runs.specs.Late.{HasRoomBehind, IsSteadyBehind, RunsAnswered}
+use Rattle.turn_client_runs.specs.InPieces.{RunsAnswered}
+use Rattle.turn_client_runs.specs.Late.{HasRoomBehind, IsSteadyBehind}
 use Rattle.turn_client_runs.specs.OnTime.{time_of_all}
 
 -- ---- the client
@@ -67,3 +68,15 @@ abbrev pub PeersLast : Type 0
 PeersLast =
     (peers : List SocketAddr) (s : State) → length peers ≡ 4096 → All (λ peer. family_of peer ≡ IPV4) peers → HaveOwnIps peers
     → LastsWithPeers (with_peers peers s)
+
+-- The same with refreshes 150 s ahead, with the defaults of the packages: so it is for a caller that is late by 2 ms, though as many
+-- packets are extra as there are grants.
+pub record LastsFarAhead (s : State) : Type 0 where
+  pub begins : IsSteadyBehind 8193 100 8193 2_000_000 5_000_000_000 0 s
+  pub lasts : (calls : List Call) → RunsAnswered 8193 100 8193 2_000_000 5_000_000_000 0 s calls
+      → (g : Grant) → Contains s.grants g → IsKeptBy calls 0 s g → HasStill g (time_of_all 0 calls) (state_after_all s calls)
+
+abbrev pub PeersLastFarAhead : Type 0
+PeersLastFarAhead =
+    (peers : List SocketAddr) (s : State) → length peers ≡ 4096 → All (λ peer. family_of peer ≡ IPV4) peers → HaveOwnIps peers
+    → LastsFarAhead (refreshing_ahead (seconds 150) (with_peers peers s))

@@ -1,12 +1,13 @@
 -- In any run of a client no grant is lost while the server answers and the caller sends what is due.
-use Rattle.std.specs.Prelude.{◌≡◌, ◌≢◌, ◌⊎◌, ℕ, ◌+◌, ◌<◌, Bool, false, true, List, [], ◌∷◌, ◌++◌, Ok, ⊤}
+use Rattle.std.specs.Prelude.{◌≡◌, ◌≢◌, ◌⊎◌, ℕ, ◌+◌, ◌<◌, Bool, false, true, List, [], ◌∷◌, ◌++◌, None, Ok, Some, ⊤}
 use Rattle.std.specs.List.{Contains}
+use Rattle.std.specs.Net.Socket.{socket_ip}
 use Rattle.turn_stun.specs.Message.{id_of}
 use Rattle.turn_stun.specs.declared.transport.TransportType.TheVariants.{Udp}
 use Rattle.turn_stun.specs.declared.transport.Transmit.{Transmit}
 use Rattle.turn_agent.specs.Agent.{is_outstanding}
-use Rattle.turn_client_api.specs.Calls.{bind_channel_step, create_permission_step, is_open_to}
-use Rattle.turn_client_api.specs.Grants.{is_permission_of}
+use Rattle.turn_client_api.specs.Calls.{bind_channel_step, create_permission_step, free_number, is_open_to}
+use Rattle.turn_client_api.specs.Grants.{is_permission_of, permission_state}
 use Rattle.turn_client_api.specs.Poll.{poll_step}
 use Rattle.turn_client_api.specs.State.{State}
 use Rattle.turn_client_api.specs.Steps.{state_after, state_after_all}
@@ -20,7 +21,8 @@ use Rattle.turn_client_api.specs.declared.poll.TurnPollRet.TheVariants as TurnPo
 use Rattle.turn_client_api.specs.declared.state.Phase.TheVariants.{Allocated}
 use Rattle.turn_client_runs.specs.History.{IsKeptBy}
 use Rattle.turn_client_runs.specs.Lasting.{HasStill, IsFresh, IsInForce, IsOneMessage, IsRequested, IsSuccess}
-use Rattle.turn_client_runs.specs.Late.{IsSteadyBehind, RunsAnswered}
+use Rattle.turn_client_runs.specs.InPieces.{RunsAnswered}
+use Rattle.turn_client_runs.specs.Late.{IsSteadyBehind}
 use Rattle.turn_client_runs.specs.OnTime.{IsFromServer, time_of_all}
 use Rattle.turn_client_runs.specs.Promises.{InEachPart}
 
@@ -64,10 +66,23 @@ RequestIsGranted delay before s (BindChannel transport peer now ∷ calls) =
     → IsOneInForce (is_open_to peer) (time_of_all now calls) (state_after_all s (BindChannel transport peer now ∷ calls))
 RequestIsGranted delay before s calls = ⊤
 
+-- The first of these calls binds a channel, and the client accepts it. The channel has the number that was free. Where the peer's
+-- IP address had no permission, the same request brings one. Each of the two that no other call lets go is in force at the end,
+-- once the delay is over.
+abbrev pub BindIsGranted : ℕ → ℕ → State → List Call → Type 0
+BindIsGranted delay before s (BindChannel transport peer now ∷ calls) =
+    let next = state_after (BindChannel transport peer now) s in
+    let lasts : Grant → Type 0 = λ g. IsKeptBy calls now next g → HasStill g (time_of_all now calls) (state_after_all next calls) in
+    (bind_channel_step transport peer now s).0 ≡ Ok tt → now + delay < time_of_all now calls
+    → ((number : ℕ) → free_number s ≡ Some number → lasts (Channel number peer (Pending true)))
+    × (permission_state (socket_ip peer) s ≡ None → lasts (Permission (socket_ip peer) (Pending true)))
+BindIsGranted delay before s calls = ⊤
+
 -- The grants last, a request that the client accepts is granted, and the caller is never told that the client has ended.
 pub record Lasts (delay now : ℕ) (s : State) (before after : List Call) : Type 0 where
   pub grants : LastsThrough delay now s before after
   pub request : RequestIsGranted delay (time_of_all now before) (state_after_all s before) after
+  pub bind : BindIsGranted delay (time_of_all now before) (state_after_all s before) after
   pub allocated : (state_after_all (state_after_all s before) after).phase ≡ Allocated
   pub open_on : (a : Relay) → Contains (state_after_all s before).grants (Allocation a) → TellAllOpen after (state_after_all s before)
 

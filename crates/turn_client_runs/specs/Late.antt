@@ -185,13 +185,6 @@ RunsGranted count slots extras late delay since before past s (call ∷ calls) =
     × IsSeldom extras s.config.refresh_ahead now later
     × AreGranted delay call now later s calls × RunsGranted count slots extras late delay (since_next call s start) now later next calls
 
--- A run from a steady state on, with a caller that is so late and a server that answers: none of the client's requests awaits its
--- success for longer than the delay. So it is if a success for each comes in time (`GrantedAreAnswered`), and this is assumed of
--- the server alone.
-abbrev pub RunsAnswered : ℕ → ℕ → ℕ → ℕ → ℕ → ℕ → State → List Call → Type 0
-RunsAnswered count slots extras late delay now s calls =
-    RunsBehind count slots extras late delay now now (no_history s) s calls ⊎ RunsGranted count slots extras late delay now now (no_history s) s calls
-
 -- ---- what holds
 
 -- a caller that is on time is one that is late by nothing

@@ -2,6 +2,7 @@ pub mod Bound
 pub mod Busy
 pub mod Challenges
 pub mod Cut
+pub mod CutRelayRows
 pub mod CutRows
 pub mod Events
 pub mod Granted
@@ -11,6 +12,7 @@ pub mod Held
 pub mod History
 pub mod Holds
 pub mod InOrder
+pub mod InPieces
 pub mod Inputs
 pub mod Lasting
 pub mod LastingPeers

@@ -1,8 +1,10 @@
 //! No grant is lost while the server answers and the caller sends what is due.
 
+ghost use Rattle.turn_client_runs.specs.InPieces.{PacketsAreEnough};
 ghost use Rattle.turn_client_runs.specs.Late.{GrantedAreAnswered, OnTimeIsLateByNone};
 ghost use Rattle.turn_client_runs.specs.LastingRuns.{GrantsLastBehind};
-ghost use Rattle.turn_client_runs.specs.LastingPeers.{HasRoomAt5Ms, HasRoomLateAt5Ms, PeersLast};
+ghost use Rattle.turn_client_runs.specs.LastingPeers.{HasRoomAt5Ms, HasRoomLateAt5Ms, PeersLast, PeersLastFarAhead};
+ghost use Rattle.turn_client_runs.specs.CutRelayRows.{AskedRelayStaysUp, CutRelayStaysUp};
 ghost use Rattle.turn_client_runs.specs.LastingRows.{RelayStaysUp};
 ghost use Rattle.turn_client_runs.specs.LateRows.{LateRelayStaysUp};
 ghost use Rattle.turn_client_runs.specs.RelayRows.{RelayStaysUpFromFirst};
@@ -33,10 +35,12 @@ ghost use Rattle.turn_client_runs.specs.Lasting.{DatagramsAreMessages, GrantsLas
 /// `behind` says the same of a caller that is late: what can be sent may wait for it for `late`, from the time at which it
 /// could first be sent, or at which the packet before it was taken. Each packet then needs `cadence + late`, and the last one
 /// leaves so much later: `(count + slots + extras) * (cadence + late) + delay + late` is less than that time. Channels may be
-/// reserved where it begins. A stream may be cut anywhere, and a piece may complete any number of messages, each a success, or
-/// noise by its bytes. It says in addition that a permission or a channel which `create_permission` or `bind_channel`
-/// accepted is in force once the delay is over, and that no `poll` returns that a client with an allocation has ended. A
-/// caller that is on time is one that is late by nothing (`on_time`). Of the server it is enough to assume that a success for
+/// reserved where it begins. A stream may be cut anywhere, and a piece may complete any number of messages, each a success, a
+/// challenge, or noise by its bytes. It says in addition that a permission or a channel which `create_permission` or `bind_channel`
+/// accepted is in force once the delay is over, a channel under the number that was free, with the permission that
+/// `bind_channel` requests where there is none; and that no `poll` returns that a client with an allocation has ended. A
+/// caller that is on time is one that is late by nothing (`on_time`). What comes may be looked at packet by packet, where a
+/// challenge is one by itself (`by_packets`). Of the server it is enough to assume that a success for
 /// each request comes within the delay, whatever the client makes of it (`granted`).
 ///
 /// It does not speak of errors, of `delete`, of data connections, or of memory allocations that fail. The other clauses are
@@ -47,6 +51,7 @@ pub fn grants_last_while_the_server_answers()
     ensures asked { RequestsSucceed }
     ensures behind { GrantsLastBehind }
     ensures on_time { OnTimeIsLateByNone }
+    ensures by_packets { PacketsAreEnough }
     ensures granted { GrantedAreAnswered }
     ensures ended { SuccessesEndRequests }
     ensures datagrams { DatagramsAreMessages }
@@ -56,11 +61,15 @@ pub fn grants_last_while_the_server_answers()
 /// the run keeps all premises of `grants_last_while_the_server_answers`. The allocation, the permission and the channel
 /// are refreshed. So these premises can be met, and no grant stands only because it has not expired yet. The same holds of a
 /// whole run from the first packet on: a handshake as that of `a_handshake_succeeds`, and then these calls, until 700 s.
-/// A caller that sends a refresh 5 ms after it was due keeps those of `behind`, with that lateness.
+/// A caller that sends a refresh 5 ms after it was due keeps those of `behind`, with that lateness. So does one over TCP whose
+/// refresh has its success in two pieces, wherever it is cut, with data of a peer before its front and behind its back. The same
+/// holds with a challenge in place of the success: the request is made again, and sent at once (`though_asked`).
 pub fn a_relay_stays_up()
     ensures lasts { RelayStaysUp }
     ensures from_first { RelayStaysUpFromFirst }
     ensures though_late { LateRelayStaysUp }
+    ensures though_cut { CutRelayStaysUp }
+    ensures though_asked { AskedRelayStaysUp }
 {}
 
 /// A cadence of 5 ms keeps 4,096 peers: with the default time ahead (`refresh_ahead`) a client over UDP that has a channel and a
@@ -69,8 +78,12 @@ pub fn a_relay_stays_up()
 /// of the grants is in force after every run that keeps these premises and does not let it go. The room is there for any
 /// client with that cadence and so many grants, if it refreshes a minute ahead or more and its allocations were granted for
 /// two minutes or more. All of this holds of a caller that is late by 900 µs at most, too.
+///
+/// With refreshes 150 s ahead, the default of the packages for other languages, it holds of one that is late by 2 ms, though as
+/// many packets are extra as there are grants, as if each refresh were lost once.
 pub fn thousands_of_peers_stay_up()
     ensures room { HasRoomAt5Ms }
     ensures room_late { HasRoomLateAt5Ms }
     ensures last { PeersLast }
+    ensures last_far_ahead { PeersLastFarAhead }
 {}
