@@ -1,6 +1,6 @@
 //! A client for C programs: an opaque pointer to a session in a box. One function makes it, one answers requests, one only
-//! looks at it, and one frees it. Two read packets without a client. All else is in `turn_c_calls`; `include/yarrowdoor.h`
-//! declares these functions.
+//! looks at it, and one frees it. Two read packets, and two compute how many grants are kept, without a client. All else is in
+//! `turn_c_calls`; `include/yarrowdoor.h` declares these functions.
 //!
 //! Bytes and buffers are passed by a pointer and a length; where the length is 0, the pointer says nothing, and may be null. So
 //! may the pointer to the data of a head, whose length alone counts.
@@ -10,10 +10,11 @@
 //! and one call is made at a time.
 #![tactic(auto)]
 
-ghost use Rattle.std.specs.Prelude.{◌≡◌};
+ghost use Rattle.std.specs.Prelude.{ℕ, ◌≡◌, ◌↔◌, ◌≤◌, ◌<◌, ◌^◌, max, IsSomeAnd};
 ghost use types.Logic.{sem};
 ghost use Rattle.turn_c_calls.specs.Held.{Held};
 ghost use Rattle.turn_c_calls.specs.Hints.{SaysFirst, SaysPlace};
+ghost use Rattle.turn_c_calls.specs.Room.{HasRoomWith, ahead_by, cadence_by, longest_in};
 ghost use Rattle.turn_c.specs.Bytes.{Given, bytes_at, place_of};
 ghost use Rattle.turn_c.specs.Opaque.{LookDoes, Named, Passed, called_at, held_at, holds_at, kept_at, named_at, new_at, passed_at, read_len};
 ghost use Rattle.turn_c.specs.Starts.{Starts};
@@ -25,6 +26,7 @@ use turn_c_calls::code::SEND_HEAD;
 use turn_c_calls::hints::{Hints, read_attribute, read_message};
 use turn_c_calls::library::{finish, look, start, step};
 use turn_c_calls::request::Request;
+use turn_c_calls::room::{Load, kept_grants, longest_cadence};
 use turn_c_calls::session::Session;
 use turn_c_calls::settings::Settings;
 
@@ -227,6 +229,30 @@ pub unsafe extern "C" fn yarrowdoor_read_attribute(
     let place = place_of(at, len, &raw const *start as *const u8);
     let bytes = slice::from_raw_parts(place, len);
     read_attribute(bytes, attribute_type, start, value_len)
+}
+
+/// How many grants are kept beside this load by a client with these settings, of which none lasts less than a permission: none of so
+/// many is lost, and one more may be. It is 0 if there is room for none, and `u64::MAX` if no packet takes any time.
+#[unsafe(no_mangle)]
+pub extern "C" fn yarrowdoor_kept_grants(
+    load: &Load,
+    request_cadence: u64,
+    refresh_ahead: u64,
+) -> u64
+    ensures { (count : ℕ) → 1 ≤ count → count < 2 ^ 64
+        → (count ≤ result) ↔ HasRoomWith count load.now (cadence_by request_cadence) (ahead_by refresh_ahead) }
+{
+    kept_grants(load, request_cadence, refresh_ahead)
+}
+
+/// The longest pause between two requests at which so many grants are kept beside this load, as a setting: `NO_PAUSE` if they are
+/// kept without a pause alone, and 0 if they are too many for any. No grant is taken as one.
+#[unsafe(no_mangle)]
+pub extern "C" fn yarrowdoor_longest_cadence(load: &Load, count: u64, refresh_ahead: u64) -> u64
+    ensures { (cadence : ℕ) → IsSomeAnd (longest_in result) (λ longest. cadence ≤ longest)
+        ↔ HasRoomWith (max 1 count) load.now cadence (ahead_by refresh_ahead) }
+{
+    longest_cadence(load, count, refresh_ahead)
 }
 
 /// Frees the session, or does nothing where the pointer is null. The pointer is not to be used again.

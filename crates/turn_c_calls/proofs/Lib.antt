@@ -1,3 +1,4 @@
+pub mod AbandonLemmas
 pub mod AddressLemmas
 pub mod EndLemmas
 pub mod HeadEndLemmas

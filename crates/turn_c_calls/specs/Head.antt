@@ -10,6 +10,7 @@ use Rattle.turn_client_api.specs.State.{State}
 use Rattle.turn_client_api.specs.declared.error.SendError.{SendError}
 use Rattle.turn_client_calls.specs.Checks.{needed}
 use Rattle.turn_client_calls.specs.Refusal.{send_refusal}
+use Rattle.turn_c_calls.specs.Abandon.{AbandonSteps, asks_to_abandon}
 use Rattle.turn_c_calls.specs.Answer.{packet_answer, refusal_answer}
 use Rattle.turn_c_calls.specs.Held.{Held}
 use Rattle.turn_c_calls.specs.Judge.{fault_code, is_udp}
@@ -99,12 +100,17 @@ abbrev pub HeadSteps : Request → ℕ → Held → Held → List ℕ → List �
 HeadSteps r len was held buffer after a b =
     HeadFinishes (head_judged was.client.config.allocation_transport r len (length buffer)) r.time len was held buffer after a b
 
-abbrev pub StepsIf : Bool → Request → List ℕ → ℕ → Held → Held → List ℕ → List ℕ → Answer → Answer → Type 0
-StepsIf true r bytes len = HeadSteps r len
-StepsIf false r bytes len = Steps r bytes
-
 abbrev pub asks_for_head : Request → Bool
 asks_for_head r = r.kind == SEND_HEAD
+
+-- a request that gives the client up, or another one
+abbrev pub AbandonStepsIf : Bool → Request → List ℕ → Held → Held → List ℕ → List ℕ → Answer → Answer → Type 0
+AbandonStepsIf true r bytes = AbandonSteps r
+AbandonStepsIf false r bytes = Steps r bytes
+
+abbrev pub StepsIf : Bool → Request → List ℕ → ℕ → Held → Held → List ℕ → List ℕ → Answer → Answer → Type 0
+StepsIf true r bytes len = HeadSteps r len
+StepsIf false r bytes len = AbandonStepsIf (asks_to_abandon r) r bytes
 
 -- Any request: with its data, or for a head with the length of the data alone.
 abbrev pub Responds : Request → List ℕ → ℕ → Held → Held → List ℕ → List ℕ → Answer → Answer → Type 0

@@ -1,3 +1,4 @@
+pub mod Abandon
 pub mod Address
 pub mod Answer
 pub mod Arms
@@ -10,6 +11,7 @@ pub mod Look
 pub mod Open
 pub mod Operation
 pub mod Request
+pub mod Room
 pub mod Settings
 pub mod Step
 pub mod Unread

@@ -2,6 +2,7 @@
 //! the registers and makes only the frame that it needs itself. Each returns the kind of the answer.
 
 ghost use Rattle.std.specs.Prelude.{◌≡◌, Some, None};
+ghost use Rattle.turn_c_calls.specs.Abandon.{AbandonSteps};
 ghost use Rattle.turn_c_calls.specs.Head.{HeadSteps};
 ghost use Rattle.turn_c_calls.specs.Request.{Bare, flow_of, kind_of};
 ghost use Rattle.turn_c_calls.specs.Step.{BareSteps, Steps};
@@ -25,6 +26,21 @@ pub fn send_head(
     ensures kind { result ≡ answer.new.kind }
 {
     session.send_head(request, len, buffer, answer);
+    answer.kind
+}
+
+/// Answers a request that gives the client up.
+#[inline(never)]
+pub fn abandon(
+    session: &mut Session,
+    request: &Request,
+    buffer: &mut [u8],
+    answer: &mut Answer,
+) -> u32
+    ensures step { AbandonSteps request.now session.old session.new buffer.old buffer.new answer.old answer.new }
+    ensures kind { result ≡ answer.new.kind }
+{
+    session.abandon(request, buffer, answer);
     answer.kind
 }
 

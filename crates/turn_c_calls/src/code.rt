@@ -82,6 +82,9 @@ pub const SET_CHANNEL_KEPT: u32 = 19;
 /// the data in the packet is written to the buffer, which holds at least 64 bytes.
 pub const SEND_HEAD: u32 = 20;
 
+/// `abandon`. The packet, if there is one, is written to the buffer, and what does not fit is left to be read.
+pub const ABANDON: u32 = 21;
+
 // ---- the kinds of answers: the call was not made, or failed
 
 /// A memory allocation failed. The client may have ended: the state is the one that the call leaves then.

@@ -11,6 +11,7 @@
 //! functions that a C library exports, and [`code`] the numbers.
 #![tactic(auto)]
 
+mod abandon;
 pub mod address;
 pub mod answer;
 mod buffer;
@@ -26,6 +27,7 @@ pub mod library;
 mod make;
 pub mod opening;
 pub mod request;
+pub mod room;
 pub mod session;
 pub mod settings;
 mod unread;

@@ -7,9 +7,10 @@ ghost use Rattle.turn_c_calls.specs.Open.{Refuses, session_of};
 
 use crate::answer::Answer;
 use crate::by_kind::{
-    bare, poll, poll_event, poll_recv, poll_transmit, read, recv, refuse, send_head, send_to,
+    abandon, bare, poll, poll_event, poll_recv, poll_transmit, read, recv, refuse, send_head,
+    send_to,
 };
-use crate::code::SEND_HEAD;
+use crate::code::{ABANDON, SEND_HEAD};
 use crate::opening::{OpenError, new_session};
 use crate::request::{Kind, Request, kind_of};
 use crate::session::Session;
@@ -55,6 +56,9 @@ pub fn step(
 {
     if request.kind == SEND_HEAD {
         return send_head(session, request, len, buffer, answer);
+    }
+    if request.kind == ABANDON {
+        return abandon(session, request, buffer, answer);
     }
     match kind_of(request.kind) {
         None => refuse(session, request, answer),

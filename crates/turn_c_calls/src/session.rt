@@ -2,11 +2,13 @@
 
 ghost use Rattle.std.specs.Prelude.{◌≡◌, Some, None, IfErr, OnOk};
 ghost use Rattle.turn_client_proto.specs.Client.{state_of};
+ghost use Rattle.turn_c_calls.specs.Abandon.{AbandonRequestEnds, AbandonRequestLacks};
 ghost use Rattle.turn_c_calls.specs.Arms.{BareEnds, BareLacks, RequestEnds, RequestLacks};
 ghost use Rattle.turn_c_calls.specs.Head.{HeadRequestEnds, HeadRequestLacks};
 ghost use Rattle.turn_c_calls.specs.Request.{Bare, Written, flow_of, kind_in, kind_of};
 ghost use Rattle.turn_c_calls.specs.declared.request.Kind.TheVariants as Kind;
 
+use crate::abandon::abandon;
 use crate::answer::Answer;
 use crate::channel::recv_udp;
 use crate::fault::Fault;
@@ -43,6 +45,7 @@ impl Model for Session {
 impl Session {
     ghost use Rattle.std.specs.Prelude.{◌≡◌, []};
     ghost use Rattle.turn_client_proto.specs.Client.{state_of};
+    ghost use Rattle.turn_c_calls.specs.Abandon.{AbandonSteps};
     ghost use Rattle.turn_c_calls.specs.Head.{HeadSteps};
     ghost use Rattle.turn_c_calls.specs.Held.{held};
     ghost use Rattle.turn_c_calls.specs.Look.{look_answer, looked};
@@ -156,6 +159,18 @@ impl Session {
         }
     }
 
+    /// Answers a request that gives the client up.
+    pub fn abandon(&mut self, request: &Request, buffer: &mut [u8], answer: &mut Answer)
+        ensures { AbandonSteps request.now self.old self.new buffer.old buffer.new answer.old answer.new }
+    {
+        let client = &mut self.client;
+        let unread = &mut self.unread;
+        match abandon_either(client, request, unread, buffer, answer) {
+            Ok(()) => {}
+            Err(fault) => answer.kind = fault.code(),
+        }
+    }
+
     /// Answers a request that only looks at the client.
     #[tactic(auto, using(crate::proofs::LookLemmas::looked_so, crate::proofs::LookLemmas::looked_not))]
     pub fn look(&self, request: &Request, answer: &mut Answer)
@@ -259,5 +274,24 @@ fn send_head_either(
     match client {
         TurnClient::Udp(client) => send_head(client, relays, request, len, buffer, answer),
         TurnClient::Tcp(client) => send_head(client, relays, request, len, buffer, answer),
+    }
+}
+
+/// As [`abandon`], for a client over UDP and one over TCP apart.
+fn abandon_either(
+    client: &mut TurnClient,
+    request: &Request,
+    unread: &mut Unread,
+    buffer: &mut [u8],
+    answer: &mut Answer,
+) -> Result<(), Fault>
+    ensures ok { OnOk result (AbandonRequestEnds request.now (state_of client.old) (state_of client.new)
+        unread.old unread.new buffer.old buffer.new answer.old answer.new) }
+    ensures err { IfErr result (λ fault. AbandonRequestLacks request.now fault (state_of client.old) (state_of client.new)
+        unread.old unread.new buffer.old buffer.new answer.old answer.new) }
+{
+    match client {
+        TurnClient::Udp(client) => abandon(client, request, unread, buffer, answer),
+        TurnClient::Tcp(client) => abandon(client, request, unread, buffer, answer),
     }
 }
