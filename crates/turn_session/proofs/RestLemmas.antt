@@ -1,39 +1,15 @@
 -- What refusals make of the keys that rest.
-use Rattle.std.proofs.Common.{◌≡◌, ℕ, ◌+◌, ◌-◌, ◌*◌, ◌^◌, ◌<◌, ◌≤◌, Bool, true, false, List, [], ◌∷◌, ◌++◌, length, drop, min, get_or, Some, None, refl, sym, ap, ◌∙◌, inl, inr, arith, ltb}
+use Rattle.std.proofs.Common.{◌≡◌, ℕ, ◌+◌, ◌-◌, ◌*◌, ◌^◌, ◌<◌, ◌≤◌, Bool, true, false, List, [], ◌∷◌, ◌++◌, length, drop, min, get_or, Some, None, refl, ap, ◌∙◌, arith, ltb}
 use Rattle.std.specs.Prelude.{is_some, IsSome, Option, remove}
-use Rattle.std.specs.List.{position, position_or_len, find}
-use Rattle.std.proofs.lemmas.Bool.{cases_Bool, ltb-true, ltb-false}
-use Rattle.std.proofs.lemmas.List.{length-append}
+use Rattle.std.specs.List.{position}
+use Rattle.std.proofs.lemmas.List.{length-append, length-drop}
 use Rattle.std.proofs.lemmas.List.Edits.{length-remove}
-use Rattle.std.proofs.lemmas.List.Folds.{find_at}
-use Rattle.std.proofs.lemmas.Option.{cond_some, slice_get-get_or, slice_get_past, none-some}
+use Rattle.turn_session.proofs.FirstLemmas.{find-some, position-IsFirst, position-none, without_first-none, without_first-some}
 use Rattle.turn_session.specs.Keys.{same_key}
 use Rattle.turn_session.specs.Rests.{after_refusal, last_rests, new_rest, rest_in_force, rest_with, without_rest}
 use Rattle.turn_session.specs.declared.keys.Key.{Key}
 use Rattle.turn_session.specs.declared.replies.ErrorReply.{ErrorReply}
 use Rattle.turn_session.specs.declared.rests.Rest.{Rest}
-
--- ---- what stands at a place
-
--- the place is within, and what stands there is found
-pub record IsFirst {X : Type 0} (p : X → Bool) (xs : List X) (i : ℕ) : Type 0 where
-  pub within : i < length xs
-  pub found : (d : X) → find p xs ≡ Some (get_or xs i d)
-
-pub position-IsFirst : {X : Type 0} (p : X → Bool) (xs : List X) (i : ℕ) → position p xs ≡ Some i → IsFirst p xs i
-position-IsFirst p xs i at =
-    let parts = cond_some (ltb (position_or_len p xs) (length xs)) (position_or_len p xs) i at in
-    let within = ltb-true _ _ parts.0 in
-    record {
-      within = omega (arith, within, parts.1);
-      found = λ d. rw (find_at p xs, parts.1) (slice_get-get_or xs i d (omega (arith, within, parts.1)));
-    }
-
-pub position-none : {X : Type 0} (p : X → Bool) (xs : List X) → position p xs ≡ None → find p xs ≡ None
-position-none p xs none = elim (cases_Bool (ltb (position_or_len p xs) (length xs))) [
-  | inl within ↦ absurd (none-some _ (sym (rw within at none)))
-  | inr past ↦ rw (find_at p xs) (slice_get_past xs (position_or_len p xs) (ltb-false _ _ past))
-]
 
 -- ---- the rest of a key
 
@@ -41,10 +17,10 @@ abbrev pub is_of : Key → Rest → Bool
 is_of key r = same_key r.key key
 
 pub without_rest-none : (key : Key) (rests : List Rest) → position (is_of key) rests ≡ None → without_rest key rests ≡ rests
-without_rest-none key rests none = rw none refl
+without_rest-none key rests none = without_first-none (is_of key) rests none
 
 pub without_rest-some : (key : Key) (rests : List Rest) (i : ℕ) → position (is_of key) rests ≡ Some i → without_rest key rests ≡ remove rests i
-without_rest-some key rests i at = rw at refl
+without_rest-some key rests i at = without_first-some (is_of key) rests i at
 
 -- a key that never rested
 pub rest_with-none : (key : Key) (rests : List Rest) → position (is_of key) rests ≡ None → rest_with key rests ≡ None
@@ -59,7 +35,7 @@ pub rest_in_force-none : (key : Key) (now : ℕ) (rests : List Rest) → positio
 rest_in_force-none key now rests none = rw (rest_with-none key rests none) refl
 
 rest_with-some : (key : Key) (rests : List Rest) (i : ℕ) (r : Rest) → position (is_of key) rests ≡ Some i → r ≡ get_or rests i r → rest_with key rests ≡ Some r
-rest_with-some key rests i r at is = (position-IsFirst (is_of key) rests i at).found r ∙ ap Some (sym is)
+rest_with-some key rests i r at is = find-some (is_of key) rests i r at is
 
 pub rest_in_force-before : (key : Key) (now : ℕ) (rests : List Rest) (i : ℕ) (r : Rest) → position (is_of key) rests ≡ Some i → r ≡ get_or rests i r → ltb now r.until ≡ true
     → Some r ≡ rest_in_force key now rests
@@ -118,3 +94,9 @@ after_refusal-full key error now rests left wait until none is_left full is_wait
     let r : Rest = record { key = key; wait = wait; until = until; error = error } in
     let one : rests ++ r ∷ [] ≡ without_rest key rests ++ new_rest key error now rests ∷ [] = rw (is_until, is_wait, none, unknown) refl in
     rw is_left (last_rests-full rests r full) ∙ ap last_rests one
+
+-- not more than are remembered are left
+pub after_refusal-few : (key : Key) (error : Option ErrorReply) (now : ℕ) (rests : List Rest) → length (after_refusal key error now rests) ≤ 4096
+after_refusal-few key error now rests =
+    let all = without_rest key rests ++ new_rest key error now rests ∷ [] in
+    omega (arith, length-drop (length all - 4096) all)

@@ -8,6 +8,11 @@ abbrev pub full_since : ℕ → Option ℕ → Option ℕ
 full_since now None = Some now
 full_since now (Some since) = Some since
 
+-- what is received while it is full begins its time anew
+abbrev pub since_received : ℕ → Option ℕ → Option ℕ
+since_received now None = None
+since_received now (Some since) = Some now
+
 -- 60 s later it has ended
 abbrev pub full_step : ℕ → Option ℕ → FullStep
 full_step now None = Idle

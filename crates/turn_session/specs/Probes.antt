@@ -19,6 +19,10 @@ after_answer Binding now p = record p { due = next_due now p; unanswered = 0; as
 after_answer BarePermission now p =
     record p { due = next_due now p; unanswered = 0; asks = if p.has_binding then p.asks else Bare }
 
+-- something else was received in the round
+abbrev pub after_skip : ℕ → Probes → Probes
+after_skip now p = record p { due = next_due now p; unanswered = 0 }
+
 -- a round that counts is one more in a row
 abbrev pub after_silence : Bool → ℕ → Probes → Probes
 after_silence counts now p =

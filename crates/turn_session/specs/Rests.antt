@@ -1,6 +1,6 @@
 -- How soon a key that the server refused is requested again.
-use Rattle.std.specs.Prelude.{ℕ, ◌+◌, ◌-◌, ◌*◌, ◌^◌, min, nat_lt, if◌then◌else◌, List, [], ◌∷◌, ◌++◌, drop, find, length, remove, Option, Some, None}
-use Rattle.std.specs.List.{position}
+use Rattle.std.specs.Prelude.{ℕ, ◌+◌, ◌-◌, ◌*◌, ◌^◌, min, nat_lt, if◌then◌else◌, List, [], ◌∷◌, ◌++◌, drop, find, length, Option, Some, None}
+use Rattle.turn_session.specs.First.{without_first}
 use Rattle.turn_session.specs.Keys.{same_key}
 use Rattle.turn_session.specs.declared.keys.Key.{Key}
 use Rattle.turn_session.specs.declared.replies.ErrorReply.{ErrorReply}
@@ -26,11 +26,7 @@ next_wait (Some r) = min (2 * r.wait) 80_000_000_000
 
 -- the others
 abbrev pub without_rest : Key → List Rest → List Rest
-without_rest key rests = by (position (λ r. same_key r.key key) rests)
-  where
-    by : Option ℕ → List Rest
-    by None = rests
-    by (Some place) = remove rests place
+without_rest key rests = without_first (λ r. same_key r.key key) rests
 
 -- the last 4,096
 abbrev pub last_rests : List Rest → List Rest

@@ -13,6 +13,10 @@ abbrev pub after_error : Tag → ℕ → Option ErrorRun → Option ErrorRun
 after_error tag now None = Some (record { tag = tag; seconds = 0; until = second_after now; is_again = false })
 after_error tag now (Some run) = Some (record run { is_again = true })
 
+abbrev pub run_until : Option ErrorRun → Option ℕ
+run_until None = None
+run_until (Some run) = Some run.until
+
 -- the result of `poll`, and the errors after it: a second without a further error ends the run, and one with such an error begins
 -- the next, with a Binding request; the third of them ends the session
 abbrev pub errors_step : ℕ → Option ErrorRun → ErrorStep × Option ErrorRun

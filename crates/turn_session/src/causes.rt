@@ -40,6 +40,8 @@ pub enum Why {
     SocketErrors(Tag),
     /// The stream was closed by the server, or with this error.
     SocketEnded(Option<Tag>),
+    /// The stream took no bytes for 60 s, and nothing was received.
+    StreamFull,
     /// The stream has bytes that begin no message.
     NotAStream,
     /// The system has no route to the server.

@@ -22,8 +22,8 @@ pub enum Event {
     Ending(Why),
     /// The outcome of the request with this ticket and key.
     Outcome(u32, Key, Outcome),
-    /// A grant that was kept has ended: the server's error, or `None` if there was no response.
-    Lost(Key, Option<ErrorReply>),
+    /// A grant that was kept has ended: what became of the request to renew it.
+    Lost(Key, Outcome),
     /// A grant that was released has ended.
     Expired(Key),
     /// A grant was refreshed, or with `None` the allocation.

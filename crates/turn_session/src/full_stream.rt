@@ -1,7 +1,7 @@
 //! A stream to the server that takes no bytes.
 
 ghost use Rattle.std.specs.Prelude.{◌≡◌, None};
-ghost use Rattle.turn_session.specs.FullStream.{full_since, full_step};
+ghost use Rattle.turn_session.specs.FullStream.{full_since, full_step, since_received};
 
 use crate::constants::FULL;
 use std::time::Duration;
@@ -21,7 +21,7 @@ pub enum FullStep {
 /// Whether the stream to the server takes bytes.
 #[derive(Clone, Copy, Debug)]
 pub struct FullStream {
-    /// Since when it has taken none, with nothing received.
+    /// Since when it has taken none, and nothing was received.
     pub since: Option<Instant>,
 }
 
@@ -43,7 +43,17 @@ impl FullStream {
         }
     }
 
-    /// It took bytes, or something was received.
+    /// Something was received: if it is full, its 60 s begin anew.
+    pub fn received(&mut self, now: Instant)
+        ensures { self.new.since ≡ since_received now self.old.since }
+    {
+        match self.since {
+            Some(_since) => self.since = Some(now),
+            None => {}
+        }
+    }
+
+    /// It took bytes.
     pub fn moved(&mut self)
         ensures { self.new.since ≡ None }
     {

@@ -1,7 +1,7 @@
 //! When the path to the server is probed, and how many probes in a row had no response.
 
 ghost use Rattle.std.specs.Prelude.{◌≡◌};
-ghost use Rattle.turn_session.specs.Probes.{after_answer, after_silence, first_probe, has_failed, next_due};
+ghost use Rattle.turn_session.specs.Probes.{after_answer, after_silence, after_skip, first_probe, has_failed, next_due};
 
 use crate::constants::RUN;
 use crate::round::{Asks, CheckRequest};
@@ -68,6 +68,14 @@ impl Probes {
             self.unanswered = self.unanswered.saturating_add(1);
         }
         self.unanswered >= RUN
+    }
+
+    /// A round is over because something else was received in it: none was unanswered.
+    pub fn skip(&mut self, now: Instant)
+        ensures { self.new ≡ after_skip now self.old }
+    {
+        self.due = self.next_due(now);
+        self.unanswered = 0;
     }
 
     /// When the next probe begins, if a round ends now.

@@ -3,6 +3,7 @@
 ghost use Rattle.std.specs.Prelude.{◌≡◌, [], IsOk, IsSome, OnErr, OnOk, length};
 ghost use Rattle.std.specs.List.{position};
 ghost use Rattle.turn_session.specs.Keys.{same_key};
+ghost use Rattle.turn_session.specs.Once.{StandOnce};
 ghost use Rattle.turn_session.specs.Rests.{after_refusal, rest_in_force, rest_with, without_rest};
 
 use crate::constants::{FIRST_REST, LAST_REST, MAX_RESTS};
@@ -26,21 +27,22 @@ pub struct Rest {
     pub error: Option<ErrorReply>,
 }
 
-/// The keys that the server refused last, at most 4,096, the oldest first. Contracts describe them by a list.
+/// The keys that the server refused last, at most 4,096 and each once, the oldest first. Contracts describe them by a list.
 #[derive(Debug, Drop)]
 pub struct Rests {
     rests: Vec<Rest>,
 }
 
 impl Model for Rests {
-    ghost use Rattle.std.specs.Prelude.{List, ◌≤◌, length};
+    ghost use Rattle.std.specs.Prelude.{List};
+    ghost use Rattle.turn_session.specs.Once.{AreRests};
     ghost use Rattle.turn_session.specs.declared.rests.Rest.{Rest};
 
     ghost Value = { List Rest };
 
     ghost view = { λ r. r.rests.items };
 
-    ghost invariant = { λ r. length r.rests.items ≤ 4096 };
+    ghost invariant = { λ r. AreRests r.rests.items };
 }
 
 impl Rests {
@@ -83,6 +85,7 @@ impl Rests {
         ensures err { OnErr result (self.new ≡ self.old) }
         ensures free_again { IsSome (rest_with key self.old) → IsOk result }
         ensures free_full { length self.old ≡ 4096 → IsOk result }
+        ensures once { StandOnce self.new }
     {
         let wait = match self.place_of(key) {
             Some(place) => {
@@ -109,7 +112,8 @@ impl Rests {
 
     /// The server granted this key: its rest is forgotten.
     pub fn forgive(&mut self, key: Key)
-        ensures { self.new ≡ without_rest key self.old }
+        ensures after { self.new ≡ without_rest key self.old }
+        ensures once { StandOnce self.new }
     {
         if let Some(place) = self.place_of(key) {
             let _forgiven = self.rests.remove(place);

@@ -1,7 +1,7 @@
 //! Errors of a socket over UDP: one may pass, but several seconds with one in each, and nothing received, end a session.
 
 ghost use Rattle.std.specs.Prelude.{◌≡◌, is_none, None};
-ghost use Rattle.turn_session.specs.SocketErrors.{after_error, errors_step, second_after};
+ghost use Rattle.turn_session.specs.SocketErrors.{after_error, errors_step, run_until, second_after};
 
 use crate::constants::{PAUSE, RUN};
 use crate::tags::Tag;
@@ -80,6 +80,16 @@ impl SocketErrors {
         ensures { self.new.run ≡ None }
     {
         self.run = None;
+    }
+
+    /// When this second ends, if errors are followed.
+    pub fn until(&self) -> Option<Instant>
+        ensures { result ≡ run_until self.now.run }
+    {
+        match self.run {
+            Some(run) => Some(run.until),
+            None => None,
+        }
     }
 
     /// What is to be done now. A second without a further error ends the run, and the third with one the session.
