@@ -1,6 +1,6 @@
 /* SPDX-License-Identifier: MIT OR Apache-2.0 */
 /* What the library has beside the proved functions: the functions that the header has inline, as symbols, so that languages
-   which find functions at run time can call them; the version; and the symbols of the layout and of the minor versions. Nothing here is proved. */
+   which find functions at run time can call them; the version; and the symbols of the layout and of the minor versions. */
 #define YARROWDOOR_DEFINE
 #include "yarrowdoor.h"
 

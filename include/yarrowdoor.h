@@ -142,7 +142,7 @@ enum yarrowdoor_kind {
     YARROWDOOR_TCP_CLOSE = 12,           /* close the connection from `from` to `to` */
     YARROWDOOR_CLOSED = 13,              /* the client has ended: it makes no more requests */
 
-    /* of yarrowdoor_poll_transmit, yarrowdoor_send_to and yarrowdoor_send_head */
+    /* of yarrowdoor_poll_transmit, yarrowdoor_abandon, yarrowdoor_send_to and yarrowdoor_send_head */
     YARROWDOOR_PACKET = 14, /* send the len bytes in the buffer over transport, from `from` to `to`; first read left more; of a
                                head, behind it the data and start bytes of 0 */
 
@@ -300,6 +300,15 @@ typedef struct yarrowdoor_message {
     uint8_t reserved[8];          /* 0 */
 } yarrowdoor_message;
 
+/* What takes time before the expiry of grants that are all to be refreshed at one time, beside their refreshes: an allocation
+   counts as a grant, and so does each permission and each channel. */
+typedef struct yarrowdoor_load {
+    uint64_t late;   /* how much too late a timer wakes the caller at most, in nanoseconds */
+    uint64_t delay;  /* how long the server's success takes at most, from when a request was made, in nanoseconds */
+    uint32_t slots;  /* packets that are queued at most when the first refresh is due */
+    uint32_t extras; /* retransmissions, and requests that are made again, within refresh_ahead at most */
+} yarrowdoor_load;
+
 /* ---- what the library exports */
 
 /* Makes a client: 0, and the client at *place. Else *place is as it was, and the number is the first of
@@ -353,6 +362,20 @@ uint32_t yarrowdoor_read_message(uint32_t transport, const uint8_t *bytes, size_
    8489, sections 14.5 and 14.6), are passed over. It verifies nothing, as yarrowdoor_read_message, and takes no memory. */
 uint32_t yarrowdoor_read_attribute(const uint8_t *bytes, size_t len, uint16_t type, size_t *start, size_t *value_len);
 
+/* How many grants are kept beside this load, by a client with these two settings (0 is their default): none of so many is lost
+   where the server answers, and one more may be. 0: there is room for none. UINT64_MAX: there is no pause, and the caller is
+   never late. A permission lasts 300 s and is refreshed after half of that at the earliest, so a refresh_ahead over 150 s counts
+   as 150 s; where the server grants an allocation for under 300 s, pass half of that. It needs no client, and takes no memory.
+
+       static const yarrowdoor_load load = {2000000, 450000000, 1, 0};   // 2 ms late, answers within 450 ms, one packet queued
+       yarrowdoor_kept_grants(&load, settings.request_cadence, settings.refresh_ahead) */
+uint64_t yarrowdoor_kept_grants(const yarrowdoor_load *load, uint64_t request_cadence, uint64_t refresh_ahead);
+
+/* The longest request_cadence of the settings at which so many grants are kept beside this load, of which each is refreshed so
+   long ahead (0 is the default): YARROWDOOR_NO_PAUSE where it takes that, and 0 where they are too many even so. A count of 0 is
+   taken as 1. It needs no client, and takes no memory. */
+uint64_t yarrowdoor_longest_cadence(const yarrowdoor_load *load, uint64_t count, uint64_t refresh_ahead);
+
 /* The version of the library that is linked or loaded, as YARROWDOOR_VERSION is that of this header. */
 uint32_t yarrowdoor_version(void);
 
@@ -386,6 +409,7 @@ YARROWDOOR_ASSERT(size_of_settings, sizeof(yarrowdoor_settings) == 160);
 YARROWDOOR_ASSERT(size_of_request, sizeof(yarrowdoor_request) == 136);
 YARROWDOOR_ASSERT(size_of_answer, sizeof(yarrowdoor_answer) == 160);
 YARROWDOOR_ASSERT(size_of_message, sizeof(yarrowdoor_message) == 112);
+YARROWDOOR_ASSERT(size_of_load, sizeof(yarrowdoor_load) == 24);
 YARROWDOOR_ASSERT(size_of_kind, sizeof(enum yarrowdoor_kind) == 4);
 YARROWDOOR_AT(address, ip, 0, 16);
 YARROWDOOR_AT(address, flow, 16, 4);
@@ -453,6 +477,10 @@ YARROWDOOR_AT(message, realm_len, 44, 4);
 YARROWDOOR_AT(message, mapped, 48, 28);
 YARROWDOOR_AT(message, alternate, 76, 28);
 YARROWDOOR_AT(message, reserved, 104, 8);
+YARROWDOOR_AT(load, late, 0, 8);
+YARROWDOOR_AT(load, delay, 8, 8);
+YARROWDOOR_AT(load, slots, 16, 4);
+YARROWDOOR_AT(load, extras, 20, 4);
 
 /* ---- calls
 
@@ -480,7 +508,8 @@ enum yarrowdoor_request_kind {
     YARROWDOOR_CALL_READ = 17,
     YARROWDOOR_CALL_SET_PERMISSION_KEPT = 18,
     YARROWDOOR_CALL_SET_CHANNEL_KEPT = 19,
-    YARROWDOOR_CALL_SEND_HEAD = 20 /* the data is counted and not read: bytes may be null, whatever bytes_len is */
+    YARROWDOOR_CALL_SEND_HEAD = 20, /* the data is counted and not read: bytes may be null, whatever bytes_len is */
+    YARROWDOOR_CALL_ABANDON = 21
 };
 
 /* ---- the functions that make them */
@@ -517,7 +546,10 @@ YARROWDOOR_INLINE yarrowdoor_settings yarrowdoor_settings_of(uint32_t transport,
 YARROWDOOR_INLINE enum yarrowdoor_kind yarrowdoor_poll(yarrowdoor *client, uint64_t now, yarrowdoor_answer *answer);
 
 /* The next packet that is due. Requests start at least 50 ms apart (our choice; request_cadence of the settings), so that
-   an allocation with its challenge and a permission take 100 ms or more; retransmissions do not wait. YARROWDOOR_PACKET:
+   an allocation with its challenge and a permission take 100 ms or more; retransmissions do not wait. The waits of a request
+   run from the call that makes it: over UDP, of more than ten that are made at once at the default, those that have not left
+   after 500 ms all leave then, without a pause, and once more in their turn, even if they are answered or have failed by
+   then. Refreshes wait behind what is queued. So make few at a time. YARROWDOOR_PACKET:
    send the answer->len bytes in the buffer, and the answer->left ones behind them that yarrowdoor_read gives, over UDP as
    one datagram. 1,500 bytes hold the packets of usual servers, and YARROWDOOR_MAX_PACKET each packet. YARROWDOOR_NOTHING:
    none is due. YARROWDOOR_UNREAD_BYTES: read the rest of an earlier answer first. */
@@ -551,8 +583,8 @@ YARROWDOOR_INLINE enum yarrowdoor_kind yarrowdoor_poll_recv(yarrowdoor *client, 
                                                             size_t buffer_len, yarrowdoor_answer *answer);
 
 /* The next bytes of an answer whose answer->left was not 0. YARROWDOOR_BYTES: answer->len bytes in the buffer, and
-   answer->left more. Until none is left, yarrowdoor_recv, yarrowdoor_poll_recv and yarrowdoor_poll_transmit answer
-   YARROWDOOR_UNREAD_BYTES and do nothing. It takes no memory. */
+   answer->left more. Until none is left, yarrowdoor_recv, yarrowdoor_poll_recv, yarrowdoor_poll_transmit and
+   yarrowdoor_abandon answer YARROWDOOR_UNREAD_BYTES and do nothing. It takes no memory. */
 YARROWDOOR_INLINE enum yarrowdoor_kind yarrowdoor_read(yarrowdoor *client, uint8_t *buffer, size_t buffer_len,
                                                        yarrowdoor_answer *answer);
 
@@ -648,9 +680,21 @@ YARROWDOOR_INLINE enum yarrowdoor_kind yarrowdoor_tcp_closed(yarrowdoor *client,
 /* Requests that the server delete the allocations (RFC 8656, section 8). YARROWDOOR_DONE: poll and transmit until
    YARROWDOOR_CLOSED, for as long as you care to wait: where the server answers with an error other than 437 it
    does not come. The pause between requests holds the REFRESH back behind each request that was made before it, by default
-   50 ms each: a caller that closes the socket at once leaves the relay to the server until its lifetime is over. YARROWDOOR_REFUSED: YARROWDOOR_ERROR_NO_ALLOCATION. To give up before there is one, free the
+   50 ms each: a caller that closes the socket at once leaves the relay to the server until its lifetime is over, and so calls
+   yarrowdoor_abandon instead. YARROWDOOR_REFUSED: YARROWDOOR_ERROR_NO_ALLOCATION. To give up before there is one, free the
    client: what the server may still grant ends there by its lifetime. */
 YARROWDOOR_INLINE enum yarrowdoor_kind yarrowdoor_delete(yarrowdoor *client, uint64_t now, yarrowdoor_answer *answer);
+
+/* Gives the client up, for a caller that closes its socket at once, as a destructor does. YARROWDOOR_PACKET: send the answer->len
+   bytes in the buffer, and the answer->left ones behind them that yarrowdoor_read gives, as those of yarrowdoor_poll_transmit.
+   It is the REFRESH that deletes the allocations (RFC 8656, section 8.1), which here waits neither for the pause nor for what is
+   queued. It is sent once: where it is lost, or the server asks for another nonce, the relay ends by its lifetime.
+   YARROWDOOR_NOTHING: the server has granted no allocation, or the client has ended. After both the client has ended: it holds
+   no grant and sends nothing more; events that were queued can still be polled. YARROWDOOR_UNREAD_BYTES: read the rest of an
+   earlier answer first. YARROWDOOR_OUT_OF_MEMORY, as each refusal, leaves the client as it was, and only one with an allocation
+   takes memory. */
+YARROWDOOR_INLINE enum yarrowdoor_kind yarrowdoor_abandon(yarrowdoor *client, uint64_t now, uint8_t *buffer,
+                                                          size_t buffer_len, yarrowdoor_answer *answer);
 
 /* Reports an error of a layer between client and server, as TLS, after which nothing can be sent: YARROWDOOR_DONE.
    Each family that is still requested fails, by its event; what else is pending has none. The client has ended. */
@@ -687,18 +731,19 @@ YARROWDOOR_INLINE int yarrowdoor_is_same_address(const yarrowdoor_address *a, co
 #if !defined(YARROWDOOR_NO_INLINE) || defined(YARROWDOOR_DEFINE)
 
 /* Makes a request one of this kind at this time, with its other numbers 0 and no addresses (YARROWDOOR_NO_ADDRESS is 0).
-   Two addresses are set at once, in a few wide stores: a memset of all four may become a string instruction, which is
+   Each address is set by itself, in two wide stores: a memset of all four may become a string instruction, which is
    slower. */
 static inline void yarrowdoor_begin(yarrowdoor_request *request, uint32_t kind, uint64_t now)
 {
-    uint8_t *bytes = YARROWDOOR_CAST(uint8_t *, YARROWDOOR_CAST(void *, request));
     request->time = now;
     request->kind = kind;
     request->id = 0;
     request->transport = 0;
     request->reserved = 0;
-    memset(bytes + offsetof(yarrowdoor_request, from), 0, sizeof request->from + sizeof request->to);
-    memset(bytes + offsetof(yarrowdoor_request, peer), 0, sizeof request->peer + sizeof request->local);
+    memset(&request->from, 0, sizeof request->from);
+    memset(&request->to, 0, sizeof request->to);
+    memset(&request->peer, 0, sizeof request->peer);
+    memset(&request->local, 0, sizeof request->local);
 }
 
 /* A request of this kind at this time, with its other numbers 0 and no addresses, as a value: yarrowdoor_begin
@@ -710,7 +755,7 @@ static inline yarrowdoor_request yarrowdoor_request_of(uint32_t kind, uint64_t n
     return request;
 }
 
-/* Sets an answer to 0, in parts, as yarrowdoor_begin sets a request. */
+/* Sets an answer to 0, in parts, since a memset of all of it may become a string instruction. */
 static inline void yarrowdoor_clear(yarrowdoor_answer *answer)
 {
     uint8_t *bytes = YARROWDOOR_CAST(uint8_t *, YARROWDOOR_CAST(void *, answer));
@@ -968,6 +1013,14 @@ YARROWDOOR_INLINE enum yarrowdoor_kind yarrowdoor_delete(yarrowdoor *client, uin
     yarrowdoor_request request;
     yarrowdoor_begin(&request, YARROWDOOR_CALL_DELETE, now);
     return yarrowdoor_call_plain(client, &request, answer);
+}
+
+YARROWDOOR_INLINE enum yarrowdoor_kind yarrowdoor_abandon(yarrowdoor *client, uint64_t now, uint8_t *buffer,
+                                                          size_t buffer_len, yarrowdoor_answer *answer)
+{
+    yarrowdoor_request request;
+    yarrowdoor_begin(&request, YARROWDOOR_CALL_ABANDON, now);
+    return yarrowdoor_call_bytes(client, &request, NULL, 0, buffer, buffer_len, answer);
 }
 
 YARROWDOOR_INLINE enum yarrowdoor_kind yarrowdoor_protocol_error(yarrowdoor *client, yarrowdoor_answer *answer)
