@@ -33,6 +33,7 @@ mod config;
 mod error;
 mod event;
 mod head;
+mod load;
 mod receive;
 mod send;
 
@@ -46,6 +47,7 @@ pub use error::{
 };
 pub use event::{Socket5Tuple, TurnEvent, TurnPollRet};
 pub use head::PacketHead;
+pub use load::Load;
 pub use receive::{DataRangeOrOwned, TurnPeerData, TurnRecvRet};
 pub use send::{DelayedMessageOrChannelSend, DelayedTransmit};
 

@@ -7,7 +7,8 @@ pub use crate::api::{
 use crate::tcp::TurnClientTcp;
 use crate::udp::TurnClientUdp;
 
-/// Gives a client the calls that the original has not: those that keep grants or let them go, and the head of a packet. They
+/// Gives a client the calls that the original has not: those that keep grants or let them go, the head of a packet, and the end
+/// of a client at once. They
 /// stand beside the trait, which is the original's, so that nothing that implements it breaks: `$call` is the macro that makes
 /// them, and `$each` says of which value.
 macro_rules! own_calls {
@@ -69,6 +70,24 @@ macro_rules! own_calls {
                 now: $crate::types::Instant,
             ) -> Result<$crate::api::Transmit<$crate::api::PacketHead>, $crate::api::SendError> {
                 $crate::$call!($each, $self, send_head(transport, to, len, now))
+            }
+
+            /// Gives the client up, for a caller that closes its socket at once: returns the packet that deletes its allocations
+            /// (a REFRESH with a lifetime of 0; RFC 8656, section 8.1), or `None` where the server has granted none, or the
+            /// client has ended. Unlike that of `delete` it waits neither for the pause between requests nor for what is queued,
+            /// and is sent once: where it is lost, or the server asks for another nonce, the relay ends by its lifetime.
+            ///
+            /// The client has ended then, and holds no grant. Events that were queued can still be polled.
+            ///
+            /// # Panics
+            ///
+            /// The time is not from 0 to 2^62 ns.
+            #[must_use = "the packet is to be sent"]
+            pub fn abandon(
+                &mut $self,
+                now: $crate::types::Instant,
+            ) -> Option<$crate::api::Transmit<$crate::api::Data<'static>>> {
+                $crate::$call!($each, $self, abandon(now))
             }
         }
     };

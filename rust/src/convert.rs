@@ -121,7 +121,7 @@ pub(crate) fn nanos_of(duration: Duration) -> u64 {
 }
 
 /// The pause between two requests. The library takes 0 for its default, and the greatest number for none.
-fn cadence_code(cadence: Duration) -> u64 {
+pub(crate) fn cadence_code(cadence: Duration) -> u64 {
     match nanos_of(cadence) {
         0 => sys::NO_PAUSE,
         nanos => nanos.min(sys::NO_PAUSE - 1),

@@ -187,10 +187,18 @@ impl Protocol {
     }
 
     pub(crate) fn poll_transmit(&mut self, now: Instant) -> Option<Transmit<Data<'static>>> {
-        let request = request(sys::CALL_POLL_TRANSMIT, now);
+        self.packet(&request(sys::CALL_POLL_TRANSMIT, now))
+    }
+
+    pub(crate) fn abandon(&mut self, now: Instant) -> Option<Transmit<Data<'static>>> {
+        self.packet(&request(sys::CALL_ABANDON, now))
+    }
+
+    /// Makes a call that returns a packet, or none.
+    fn packet(&mut self, request: &sys::Request) -> Option<Transmit<Data<'static>>> {
         let mut answer = sys::Answer::default();
         self.handle
-            .call(&request, &[], &mut self.buffer.0, &mut answer);
+            .call(request, &[], &mut self.buffer.0, &mut answer);
         match answer.kind {
             sys::NOTHING => None,
             sys::PACKET => Some(Transmit::new(

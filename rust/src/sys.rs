@@ -52,6 +52,7 @@ numbers! {
     CALL_SET_CHANNEL_KEPT: u32 = 19;
     /// The data is counted and not read: its pointer may be null.
     CALL_SEND_HEAD: u32 = 20;
+    CALL_ABANDON: u32 = 21;
 
     OUT_OF_MEMORY: u32 = 1;
     BAD_TIME: u32 = 2;
@@ -197,8 +198,23 @@ pub(crate) struct Message {
     pub(crate) reserved: [u8; 8],
 }
 
+#[derive(Clone, Copy, Default)]
+#[repr(C)]
+pub(crate) struct Load {
+    pub(crate) late: u64,
+    pub(crate) delay: u64,
+    pub(crate) slots: u32,
+    pub(crate) extras: u32,
+}
+
 const _: () = {
     assert!(size_of::<usize>() == 8);
+    assert!(
+        size_of::<Load>() == 24
+            && offset_of!(Load, delay) == 8
+            && offset_of!(Load, slots) == 16
+            && offset_of!(Load, extras) == 20
+    );
     assert!(
         size_of::<Message>() == 112
             && offset_of!(Message, class) == 14
@@ -284,6 +300,10 @@ extern "C" {
 unsafe extern "C" {
     /// 0. What refers to it is linked to a library of this layout alone.
     safe static yarrowdoor_abi_0: u32;
+
+    // Each only reads what the reference leads to.
+    pub(crate) safe fn yarrowdoor_kept_grants(load: &Load, cadence: u64, ahead: u64) -> u64;
+    pub(crate) safe fn yarrowdoor_longest_cadence(load: &Load, count: u64, ahead: u64) -> u64;
 }
 
 impl Settings {
