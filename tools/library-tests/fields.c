@@ -131,10 +131,10 @@ static void bad_times_and_kinds(yarrowdoor *client)
     }
     for (int i = 0; i < DRAWS; i++) {
         uint32_t kind = (uint32_t)draw();
-        yarrowdoor_request r = whole(kind <= YARROWDOOR_CALL_SEND_HEAD ? 0 : kind);
+        yarrowdoor_request r = whole(kind <= YARROWDOOR_CALL_ABANDON ? 0 : kind);
         refused(client, &r, 0, BUFFER, YARROWDOOR_BAD_CALL, "a kind of no call");
     }
-    for (uint32_t kind = YARROWDOOR_CALL_SEND_HEAD + 1; kind < 300; kind++) {
+    for (uint32_t kind = YARROWDOOR_CALL_ABANDON + 1; kind < 300; kind++) {
         yarrowdoor_request r = whole(kind);
         refused(client, &r, 0, BUFFER, YARROWDOOR_BAD_CALL, "a kind of no call");
     }
@@ -142,7 +142,7 @@ static void bad_times_and_kinds(yarrowdoor *client)
 
 static void bad_addresses(yarrowdoor *client)
 {
-    for (uint32_t kind = 1; kind <= YARROWDOOR_CALL_SEND_HEAD; kind++) {
+    for (uint32_t kind = 1; kind <= YARROWDOOR_CALL_ABANDON; kind++) {
         yarrowdoor_request r = whole(kind);
         yarrowdoor_address *fields[4];
         int count = needs(kind, &r, fields);
@@ -172,7 +172,7 @@ static void bad_addresses(yarrowdoor *client)
 /* Each reserved byte that a call reads, and no other number than 0 and 1 for what is kept. */
 static void bad_reserved(yarrowdoor *client)
 {
-    for (uint32_t kind = 1; kind <= YARROWDOOR_CALL_SEND_HEAD; kind++) {
+    for (uint32_t kind = 1; kind <= YARROWDOOR_CALL_ABANDON; kind++) {
         yarrowdoor_request r = whole(kind);
         yarrowdoor_address *fields[4];
         int count = needs(kind, &r, fields);

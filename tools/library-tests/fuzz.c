@@ -269,6 +269,23 @@ static void poll_data(struct run *run, size_t room)
     expect_unread(run, kind, &answer, room);
 }
 
+/* Gives the client up, as far as nothing is to be read: it has ended then, and sends nothing more. */
+static void give_up(struct run *run, size_t room)
+{
+    yarrowdoor_answer answer;
+    uint32_t kind;
+    prepare(&answer, room);
+    kind = yarrowdoor_abandon(run->client, run->now, buffer, room, &answer);
+    EXPECT(kind, &answer, room, YARROWDOOR_PACKET, YARROWDOOR_NOTHING, YARROWDOOR_UNREAD_BYTES);
+    expect_unread(run, kind, &answer, room);
+    if (kind == YARROWDOOR_PACKET || kind == YARROWDOOR_NOTHING) {
+        while (yarrowdoor_poll_event(run->client, &answer) != YARROWDOOR_NOTHING) {
+        }
+        expect(yarrowdoor_poll(run->client, run->now, &answer) == YARROWDOOR_CLOSED, "a client that was given up goes on");
+        expect(yarrowdoor_relayed_address(run->client, 0, &answer) == YARROWDOOR_NOTHING, "a grant of a client that was given up");
+    }
+}
+
 /* The calls of a caller that asks for something. */
 static void request(struct run *run, uint8_t which)
 {
@@ -344,6 +361,15 @@ static void step(struct run *run, struct input *in)
     case 9: read_rest(run, room); break;
     case 10: poll_data(run, room); break;
     case 11: case 12: request(run, take(in)); break;
+    case 13:
+        /* seldom, since nothing happens behind it */
+        what = take(in);
+        if (what >= 240) {
+            give_up(run, room);
+        } else {
+            look(run, what);
+        }
+        break;
     default: look(run, take(in));
     }
 }

@@ -16,6 +16,7 @@ STRUCTS = {
     "yarrowdoor_request": ("request", "Request"),
     "yarrowdoor_answer": ("answer", "Answer"),
     "yarrowdoor_message": ("hints", "Hints"),
+    "yarrowdoor_load": ("room", "Load"),
 }
 OTHER_NAMES = {"relays": "allocation_transport"}
 # The name in Rattle of an enum's number, where it is not the name in C without its prefix.

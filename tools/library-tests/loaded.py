@@ -5,7 +5,8 @@ import json
 import pathlib
 
 INTS = {1: ctypes.c_uint8, 2: ctypes.c_uint16, 4: ctypes.c_uint32, 8: ctypes.c_uint64}
-STRUCTS = ("yarrowdoor_address", "yarrowdoor_settings", "yarrowdoor_request", "yarrowdoor_answer", "yarrowdoor_message")
+STRUCTS = ("yarrowdoor_address", "yarrowdoor_settings", "yarrowdoor_request", "yarrowdoor_answer", "yarrowdoor_message",
+           "yarrowdoor_load")
 
 
 class Numbers(dict):
@@ -43,5 +44,6 @@ def load(library, layout):
         struct(said, each, made)
     loaded.yarrowdoor_settings_of.restype = made["yarrowdoor_settings"]
     loaded.yarrowdoor_ipv4.restype = made["yarrowdoor_address"]
+    loaded.yarrowdoor_kept_grants.restype = loaded.yarrowdoor_longest_cadence.restype = ctypes.c_uint64
     loaded.yarrowdoor_kind_name.restype = loaded.yarrowdoor_error_name.restype = ctypes.c_char_p
     return loaded, said, Numbers(said), made

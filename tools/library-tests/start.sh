@@ -55,6 +55,20 @@ check_starts_by_pkg_config() {
     starts "$to/main" ""
 }
 
+# The same over what the packages for Debian put into a system: as dpkg has installed them into an empty folder, which takes the rights
+# of root, or as they are unpacked.
+check_starts_by_packages() {
+    local system=$room/debs/root deb
+    if [ ! -d "$system/usr" ]; then
+        system=$room/debs/system
+        for deb in "$room"/debs/*_amd64.deb; do
+            dpkg-deb --extract "$deb" "$system"
+        done
+    fi
+    export C_INCLUDE_PATH=$system/usr/include
+    check_starts "$room/start_deb" "$system/usr/lib/x86_64-linux-gnu" cc
+}
+
 # The memory functions of the shared library, beside those of the C library, by the tools whose names begin so.
 check_memory() {
     local cc=${1:+$1gcc} name names=() run=("${@:2}")
@@ -86,6 +100,9 @@ test_start() {
     fi
     if has pkg-config "the start of programs by pkg-config"; then
         step "programs start over a library over the installed one, by pkg-config" check_starts_by_pkg_config
+    fi
+    if compgen -G "$room/debs/*_amd64.deb" > /dev/null; then
+        step "programs start over a library over the packages for Debian" check_starts_by_packages
     fi
     if has cmake "the start of programs by CMake"; then
         step "programs start over a library over the installed one, by CMake" check_starts_by_cmake

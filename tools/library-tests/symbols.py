@@ -20,7 +20,7 @@ RECEIVED = [bytes.fromhex(it) for it in (
 CALLED = set()
 
 library, said, N, made = load(sys.argv[1], sys.argv[2])
-Address, Settings, Answer, Message = (made[f"yarrowdoor_{it}"] for it in ("address", "settings", "answer", "message"))
+Address, Settings, Answer, Message, Load = (made[f"yarrowdoor_{it}"] for it in ("address", "settings", "answer", "message", "load"))
 
 
 def call(name, *args):
@@ -105,6 +105,8 @@ def others():
     check("read", (call("read", client, *room, ref(answer)), answer.len), (N.BYTES, 0))
     check("delete", call("delete", client, now, ref(answer)), N.DONE)
     check("poll", call("poll", client, now, ref(answer)), N.WAIT_UNTIL)
+    given_up = call("abandon", client, now, *room, ref(answer))
+    check("abandon", (given_up, bytes(buffer[:2])), (N.PACKET, b"\0\4"))
     check("protocol_error", call("protocol_error", client, ref(answer)), N.DONE)
     check("poll", call("poll", client, now, ref(answer)), N.CLOSED)
     check("kind_name", call("kind_name", answer.kind), b"CLOSED")
@@ -119,6 +121,11 @@ def without_a_client():
     check("read_message", packet[message.realm_at : message.realm_at + message.realm_len], b"realm")
     check("read_attribute", call("read_attribute", packet, ctypes.c_size_t(len(packet)), 0x15, ref(start), ref(size)), N.YES)
     check("read_attribute", packet[start.value : start.value + size.value], b"nonce")
+    # a request each 52 ms within 60 s less 452 ms: 1,145, one of which is queued beside
+    load = Load(late=2_000_000, delay=450_000_000, slots=1, extras=0)
+    check("kept_grants", call("kept_grants", ref(load), u64(0), u64(0)), 1144)
+    check("longest_cadence", call("longest_cadence", ref(load), u64(1144), u64(0)) >= 50_000_000, True)
+    check("longest_cadence", call("longest_cadence", ref(load), u64(1145), u64(0)) < 50_000_000, True)
     major, minor, patch = map(int, said["version"].split("."))
     check("version", call("version"), major << 16 | minor << 8 | patch)
     check("abi_0", ctypes.c_uint32.in_dll(library, "yarrowdoor_abi_0").value, 0)

@@ -47,6 +47,8 @@ class Life:
 
     def call(self, call, step):
         self.may_end |= call.answer == ["ok"] and call.name in ("delete", "error")
+        # Times may go back: what a later poll has ended is not there again.
+        self.may_end |= call.name == "poll" and 0 < self.until <= call.time
         self.challenges += len(step.challenges)
         for request, message in step.replies:
             lifetime = message.number(stun.LIFETIME)
