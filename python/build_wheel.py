@@ -84,8 +84,10 @@ def is_proved(proof: str) -> bool:
 
 
 def version(folder: Optional[pathlib.Path]) -> str:
-    """The version of a wheel: one whose library is not proved, or is another's, says so (a local version of PEP 440)."""
-    return release() + ("" if folder is not None and is_proved((folder / "PROOF").read_text()) else "+unproved")
+    """The version of a wheel: one whose library is not proved, or is another's, says so (a local version of PEP 440). One that is
+    made of a source archive, without a library, has the archive's version: pip refuses another one."""
+    is_plain = (HERE / "PKG-INFO").exists() if folder is None else is_proved((folder / "PROOF").read_text())
+    return release() + ("" if is_plain else "+unproved")
 
 
 def needed(library: bytes) -> List[str]:
@@ -208,13 +210,13 @@ def build_editable(wheel_directory: str, config_settings: Any = None, metadata_d
 
 def build_sdist(sdist_directory: str, config_settings: Any = None) -> str:
     """Makes an archive of the sources and their tests, without the library, and returns its name (PEP 517). Its version is that of
-    what is made of it, without a proved library beside it."""
-    about = f"{project('name')}-{version(None)}"
+    the release: no index takes a local version, and it has no library that could be proved or not."""
+    about = f"{project('name')}-{release()}"
     found = sources()
     found.update({f"tests/{it.name}": it.read_bytes() for it in sorted((HERE / "tests").glob("*.py"))})
     for name in ("pyproject.toml", "build_wheel.py", "README.md"):
         found[name] = (HERE / name).read_bytes()
-    found["LICENSE"], found["PKG-INFO"] = licence(), metadata(version(None))
+    found["LICENSE"], found["PKG-INFO"] = licence(), metadata(release())
     packed = io.BytesIO()
     with tarfile.open(fileobj=packed, mode="w", format=tarfile.PAX_FORMAT) as archive:
         for path, data in sorted(found.items()):

@@ -86,8 +86,12 @@ RUNS: Dict[str, Run] = {
     "no credentials asked": Run(CHECK, with_coturn("--no-auth"), 1),
     "a quota": Run(CHECK, with_coturn("--user-quota", "1"), 1),
     "quota and nonce, if asked": Run(f"{CHECK} --quota 10 --nonce 8", with_coturn("--user-quota", "6", "--stale-nonce=3"), 0),
+    "all transports": Run("check turn:localhost:{port} --user user --all --ca {room}/ca.pem", with_certificate("localhost"), 0),
     "echo": Run("echo turn:127.0.0.1:{port} --user user --channel", with_coturn(), 0),
     "bench": Run("bench turn:127.0.0.1:{port} --user user --seconds 1", with_coturn(), 0),
+    "load": Run("load turn:127.0.0.1:{port} --user user --allocations 20 --rate 50 --hold 2", with_coturn(), 0),
+    "load up to a limit": Run("load turn:127.0.0.1:{port} --user user --allocations 100 --rate 50 --hold 1",
+                              with_coturn("--user-quota", "12"), 0),
 }
 CERTIFIED = ("a certificate for another name", "a certificate out of date")
 
@@ -114,7 +118,8 @@ def make(name: str, patience: float = 1.0) -> Tuple[int, str, float]:
 def plain(text: str) -> str:
     """What a run printed, without numbers that differ from run to run, and without what its length does to the ends of lines."""
     text = re.sub(r"\s+", " ", text)
-    units = "s|ms|packets a second|bytes pass|do not|days|hours|minutes|seconds|% of|of [0-9]+ came back"
+    text = re.sub(r"in [\d.]+, [\d.]+, [\d.]+ and", "in N, N, N and", text)
+    units = "s|ms|a second|packets a second|bytes pass|do not|days|hours|minutes|seconds|% of|of [0-9]+ came back"
     text = re.sub(rf"\d[\d,.]*( (?:{units})\b)", r"N\1", text)
     text = re.sub(r"in [\d.]+, [\d.]+ and", "in N, N and", text)
     text = re.sub(r"% of [\d,]+ lost|\d+ % of a", "% of N", text)

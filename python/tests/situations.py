@@ -64,6 +64,8 @@ class Situation:
     """its certificate"""
     odd: Sequence[str] = ()
     """the words of an odd server, beside it"""
+    pion: Sequence[str] = ()
+    """the words of a server of pion, in place of coturn"""
     rules: Dict[str, Sequence[str]] = field(default_factory=dict)
     """by namespace, chains of nftables, each with its hook first"""
     is_own: bool = False
@@ -72,6 +74,8 @@ class Situation:
     env: Dict[str, str] = field(default_factory=lambda: {"YARROWDOOR_PASSWORD": "pass", "YARROWDOOR_USER": "user"})
     seconds: float = 0.0
     """how long the check may take on a machine that does nothing else, or any time"""
+    is_alone: bool = False
+    """whether no other step may fail"""
 
 
 def drop(rule: str) -> Sequence[str]:
@@ -97,12 +101,21 @@ ALL: Dict[str, Situation] = {
     "relay at another address": Situation("", (), "", 0, coturn=("-E", "45.20.0.3")),
     "relay over IPv6 only": Situation("", (), "", 0, coturn=("-L", "2a00:1450:20::2", "-E", "2a00:1450:20::2")),
     "NAT that is right": Situation("", (), "", 0, "turn:45.30.0.2", NAT, "10.1.0.2", rules=nat()),
+    "NAT of the port of TURN": Situation("", (), "", 0, rules={
+        "rtr": ("postrouting nat 100 oifname s1 udp dport 3478 snat ip to 45.20.0.1",)}),
     "nonces of a second": Situation("", (), "", 0, coturn=("--stale-nonce=1",)),
     "a little loss": Situation("", (), "", 0, rules=forward("numgen random mod 1000 < 3 drop")),
+    "the first packets from outside are lost": Situation("", (), "", 0, rules=forward(
+        "iifname c1 udp dport 49152-65535 limit rate 3/hour burst 3 packets drop")),
+    "the first packets to outside are lost": Situation("", (), "", 0, rules=forward(
+        "iifname s1 udp sport 49152-65535 limit rate 3/hour burst 3 packets drop")),
     "far away": Situation("", (), "", 0, odd=("rtr", "slow", "-", "150"), seconds=4.0),
     # Peers outside
     "relay ports closed": Situation("outside", ("lets in the port of TURN and not the relay ports",),
                                     rules={"srv": drop("iifname s0 udp dport 49152-65535 drop")}),
+    "some relay ports closed": Situation("outside", ("a part of the relay ports", "3 of 3", "0 of 3"),
+                                         coturn=("--min-port", "50000", "--max-port", "50001"),
+                                         rules=forward("iifname c1 udp dport 50001 drop")),
     "relay egress closed": Situation("outside", ("egress",), rules=forward("iifname s1 udp sport 49152-65535 drop")),
     "external address of another host": Situation("outside", ("comes from 45.20.0.2", "external-ip="),
                                                   coturn=("--external-ip", "45.99.0.1")),
@@ -125,11 +138,15 @@ ALL: Dict[str, Situation] = {
     "bandwidth of a session": Situation("messages", ("max-bps=",), coturn=("--max-bps", "4000")),
     "bandwidth of all": Situation("limit", ("bps-capacity=",), coturn=("--max-bps", "100000", "--bps-capacity", "150000")),
     "one relay port": Situation("allocation-2", ("min-port=",), coturn=("--min-port", "50000", "--max-port", "50000")),
+    "strict policer": Situation("messages", ("limit of rate",), rules=forward(
+        "udp sport 3478 meta length > 150 limit rate over 5/second burst 1 packets drop")),
     "policer": Situation("messages", ("limit of rate",), rules=forward("udp sport 3478 limit rate over 50/second drop")),
     "limit of flows": Situation("flows", ("new flows",),
                                 rules=forward("iifname c1 udp dport 3478 ct state new limit rate over 3/minute burst 3 packets "
                                               "drop")),
     "much loss": Situation("channels", ("crossings", "--max-loss"), rules=forward("numgen random mod 1000 < 50 drop")),
+    "loss over TCP": Situation("messages", ("TCP has sent", "the network on the way has lost"), "ok", 0, TCP,
+                               rules=forward("meta l4proto tcp numgen random mod 1000 < 50 drop")),
     "small MTU": Situation("payload", ("small MTU",), rules=forward("meta length > 1200 drop")),
     # Doors
     "rejected by the server": Situation("udp", ("45.20.0.2 itself rejects UDP 3478", "firewall-cmd"),
@@ -142,6 +159,25 @@ ALL: Dict[str, Situation] = {
     "no route at a router": Situation("udp", ("45.10.0.1, on the way to 45.20.0.2, has no way",),
                                       rules=forward("iifname c1 meta l4proto {{ tcp, udp }} reject with icmp type "
                                                     "net-unreachable")),
+    "rejected here": Situation("udp", ("A firewall of this host itself", "use turn:45.20.0.2:3478?transport=tcp"), "untried", 2,
+                               rules={"": ("output filter 0 udp dport 3478 drop",)}),
+    "rejected here by ICMP": Situation("udp", ("A firewall of this host itself",), "untried", 2, rules={
+        "": ("output filter 0 meta l4proto {{ tcp, udp }} th dport 3478 reject",)}),
+    "ALLOCATE dropped": Situation("challenge", ("lets STUN alone through",),
+                                  rules=forward("iifname c1 udp dport 3478 @th,64,16 0x0003 drop")),
+    "indications dropped": Situation("indications", ("Channels pass, and messages do not",),
+                                     rules=forward("iifname c1 udp dport 3478 @th,64,16 0x0016 drop")),
+    "ChannelData dropped": Situation("channels", ("drops ChannelData messages",),
+                                     rules=forward("iifname c1 udp dport 3478 @th,64,2 1 drop")),
+    "CHANNEL_BIND dropped": Situation("channel", ("a firewall on the way that looks into TURN",),
+                                      rules=forward("iifname c1 udp dport 3478 @th,64,16 0x0009 drop")),
+    "fragments dropped": Situation("payload", ("bytes pass",), "ok", 0, rules=forward("ip frag-off & 0x1fff != 0 drop")),
+    "reset after data": Situation("allocation", ("ended it",), words=TCP, rules=forward(
+        "iifname c1 tcp dport 3478 ct original packets > 4 reject with tcp reset")),
+    "no further connection": Situation("connection", ("was not made in time",), rules=forward(
+        "iifname c1 tcp dport 3478 ct state new limit rate over 1/minute burst 1 packets drop")),
+    "unusual letters": Situation("", (), "", 0, coturn=("-u", "jörg:pä:ss wörd"),
+                                 env={"YARROWDOOR_PASSWORD": "pä:ss wörd", "YARROWDOOR_USER": "jörg"}),
     "UDP dropped": Situation("udp", ("is blocked, and TCP is open",), rules={"srv": drop("iifname s0 udp dport 3478 drop")}),
     "all dropped": Situation("udp", ("Nothing comes back from 45.20.0.2", "--timeout"),
                              rules={"srv": drop("iifname s0 meta l4proto {{ tcp, udp }} th dport 3478 drop")}),
@@ -172,11 +208,16 @@ ALL: Dict[str, Situation] = {
     "HTTP": Situation("tcp", ("HTTP/1.1",), words=TCP, coturn=None, odd=("srv", "http", "45.20.0.2", "3478")),
     "a dead address": Situation("udp", ("45.20.0.9 does not answer",), words="turn:dead.example.org"),
     "no Binding": Situation("udp", ("no Binding request", "no-stun"), "note", 0, coturn=("--no-stun",)),
-    "balancer by packets": Situation("balancer", ("Several servers answer",), coturn=("--twin", "45.20.0.3"), rules={"rtr": (
+    "balancer by packets": Situation("balancer", ("Several",), is_alone=True, coturn=("--twin", "45.20.0.3"), rules={"rtr": (
         "prerouting filter -300 iifname c1 ip daddr 45.20.0.2 udp dport 3478 notrack ; "
         "iifname c1 ip daddr 45.20.0.2 udp dport 3478 numgen random mod 2 == 0 ip daddr set 45.20.0.3 ; "
         "iifname s1 ip saddr 45.20.0.3 udp sport 3478 notrack ; "
         "iifname s1 ip saddr 45.20.0.3 udp sport 3478 ip saddr set 45.20.0.2",)}),
+    "pion": Situation("", (), "", 0, coturn=None, pion=("3478", "45.20.0.2")),
+    "pion that denies all peers": Situation("permission", ("refuses 45.20.0.2", "PermissionHandler"), coturn=None,
+                                            pion=("3478", "45.20.0.2", "45.20.0.2", "deny")),
+    "pion that relays at another host's address": Situation("allocation", ("not one of its host", "RelayAddress"), coturn=None,
+                                                            pion=("3478", "45.20.0.2", "45.99.0.1")),
     "open to its own network": Situation("security-private-10", ("denied-peer-ip=10.0.0.0-10.255.255.255",),
                                          words=f"{URI} --security"),
     "closed to its own network": Situation("security", ("refuses peers in 169.254.0.0/16",), "ok", 0, f"{URI} --security", DENIED),
@@ -189,6 +230,8 @@ ALL: Dict[str, Situation] = {
                          odd=("srv", "tls-old", "45.20.0.2", "5349", "{certs}/good.pem", "{certs}/good.key")),
     "certificate of the client": Situation("tls", ("certificate (mutual TLS)",), words=TLS, coturn=None,
                                            odd=("srv", "tls-client", "45.20.0.2", "5349", "{certs}/good.pem", "{certs}/good.key")),
+    "small MTU at TLS": Situation("tls", ("speaks TLS", "small MTU"), words=TLS, tls="good",
+                                  rules=forward("iifname s1 meta length > 400 drop")),
     "unknown name": Situation("tls", ("refuses turn.example.org (SNI)",), words=TLS, coturn=None,
                               odd=("srv", "tls-name", "45.20.0.2", "5349", "{certs}/good.pem", "{certs}/good.key")),
     "no cipher": Situation("tls", ("ciphers", "cipher-list="), words=TLS, tls="good", coturn=("--cipher-list", "AES128-SHA")),
@@ -231,6 +274,15 @@ def _coturn(situation: Situation, room: str, certs: str) -> Iterator[List[str]]:
         yield [*words, *options]
 
 
+def _others(situation: Situation, certs: str) -> Iterator[Tuple[str, List[str]]]:
+    """The words of the servers that are not coturn, each with its namespace."""
+    if situation.odd:
+        words = [sys.executable, "-m", "tests.odd_servers", *(it.format(certs=certs) for it in situation.odd[1:])]
+        yield situation.odd[0], words
+    if situation.pion:
+        yield "srv", [f"{certs}/pion", *situation.pion]
+
+
 @contextlib.contextmanager
 def _running(situation: Situation, room: str, certs: str) -> Iterator[None]:
     """The servers and rules of a situation."""
@@ -244,9 +296,9 @@ def _running(situation: Situation, room: str, certs: str) -> Iterator[None]:
                     break
                 time.sleep(0.1)
             time.sleep(0.5)
-        if situation.odd:
-            words = [sys.executable, "-m", "tests.odd_servers", *(it.format(certs=certs) for it in situation.odd[1:])]
-            program = subprocess.Popen(_inside(situation.odd[0], words), stdout=subprocess.PIPE, text=True, cwd=TOP)
+        for namespace, words in _others(situation, certs):
+            program = subprocess.Popen(_inside(namespace, words), stdout=subprocess.PIPE, stderr=subprocess.DEVNULL, text=True,
+                                       cwd=TOP)
             started.append(program)
             assert program.stdout is not None and program.stdout.readline() == "ready\n", "the odd server did not start"
         for namespace, chains in situation.rules.items():

@@ -13,6 +13,7 @@ import unittest
 from typing import Iterator, List, NamedTuple, Tuple
 from unittest import mock
 
+from yarrowdoor import reasons
 from yarrowdoor.command.capture import Capture
 from yarrowdoor.command.main import main
 
@@ -112,8 +113,13 @@ class Headers(unittest.TestCase):
 
 
 def decoded(path: pathlib.Path) -> List[str]:
-    """What tshark says of each packet: its protocol, and what is in it."""
-    words = ["tshark", "-r", str(path), "-T", "fields", "-E", "separator=|", "-e", "_ws.col.Protocol", "-e", "_ws.col.Info"]
+    """What tshark says of each packet: its protocol, and what is in it. All ports are those of STUN: a random one may be that of
+    another protocol for tshark, as 44818 is of EtherNet/IP."""
+    found = [parsed(it) for _, it in packets(path.read_bytes())]
+    ports = {f"{'udp' if it.protocol == 17 else 'tcp'}.port=={port},stun" for it in found
+             for port in (it.source[1], it.destination[1])}
+    words = ["tshark", "-r", str(path), "-T", "fields", "-E", "separator=|", "-e", "_ws.col.Protocol", "-e", "_ws.col.Info",
+             *(word for it in sorted(ports) for word in ("-d", it))]
     return subprocess.run(words, check=True, stdout=subprocess.PIPE, stderr=subprocess.DEVNULL, text=True).stdout.splitlines()
 
 
@@ -125,6 +131,17 @@ class Decoded(unittest.TestCase):
             path = pathlib.Path(room, "packets.pcap")
             self.assertEqual(main(["check", uri, "--user", "user", "--pcap", str(path), *words]), 0)
             return decoded(path)
+
+    def test_the_port_of_another_protocol(self) -> None:
+        here, there, request = ("127.0.0.1", 44818), ("127.0.0.1", 2222), reasons.binding_request(bytes(12))
+        with tempfile.TemporaryDirectory() as room:
+            path = pathlib.Path(room, "packets.pcap")
+            with path.open("wb") as file, Capture(file) as capture:
+                capture.datagram(here, there, request, 0.0)
+                capture.opened(here, there, 0.0)
+                capture.piece(here, there, request, 0.0)
+            found = [it for it in decoded(path) if " Len=0" not in it]
+        self.assertEqual(found, ["STUN|Binding Request"] * 2)
 
     @unittest.skipUnless(IS_HERE, WHY)
     def test_each_message_of_a_check_is_named(self) -> None:

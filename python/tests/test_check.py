@@ -47,7 +47,7 @@ class Page(unittest.TestCase):
         self.assertEqual([it for it, _ in check_page.blocks()], [*check_page.RUNS])
 
     def test_what_works(self) -> None:
-        self.compare("all is well", "quota and nonce, if asked", "echo", "bench")
+        self.compare("all is well", "quota and nonce, if asked", "all transports", "echo", "bench", "load", "load up to a limit")
 
     def test_credentials(self) -> None:
         self.compare("a wrong password", "an expired user", "another secret", "no credentials asked", "a quota")
@@ -77,7 +77,7 @@ class Others(unittest.TestCase):
 
     def wrong_password(self, port: int, code: int) -> None:
         status, steps = run(f"turn:127.0.0.1:{port}", password="wrong")
-        self.assertEqual((status, steps["allocation"]["facts"]), (1, {"code": code}))
+        self.assertEqual((status, steps["allocation"]["facts"]["code"]), (1, code))
         self.assertIn("The realm 'realm' does not take the user 'user' with this password", steps["allocation"]["advice"])
 
     @unittest.skipUnless(turn_servers.HAS_PION, turn_servers.WHY_NO_PION)

@@ -10,10 +10,12 @@ import ssl
 import tempfile
 import threading
 import unittest
+from dataclasses import replace
 from typing import Any, Callable, Dict, Iterator, List, Tuple
 from unittest import mock
 
-from yarrowdoor.command import joining, output, traffic
+from yarrowdoor import Address
+from yarrowdoor.command import extras, joining, output, outside, traffic
 from yarrowdoor.command.credentials import Credentials
 from yarrowdoor.command.driver import leave_all
 from yarrowdoor.command.exchange import Exchange
@@ -59,6 +61,75 @@ class Payload(unittest.TestCase):
                 leave_all(opened)
         self.assertEqual((step.outcome, step.facts["bytes"]), (Outcome.FAILED, 0))
         self.assertIn("none passes", step.said)
+
+
+class Rates(unittest.TestCase):
+    def test_over_a_stream_loss_comes_before_a_limit_of_rate(self) -> None:
+        for is_stream, said in ((True, "the network on the way loses packets, for which a stream waits"), (False, "a policer")):
+            trip = mock.Mock()
+            trip.sender.wire.is_stream = is_stream
+            step = traffic._judged(trip, "messages", traffic.Echoes(100, [0.001] * 6), 1.0, True)
+            self.assertEqual((step.outcome, step.facts["received"]), (Outcome.FAILED, 6))
+            self.assertIn(said, step.advice)
+
+    def test_what_a_stream_has_sent_again_is_named(self) -> None:
+        for resent, said in ((2, ""), (4, "TCP has sent 8 packets again from here")):
+            trip = mock.Mock(all=[mock.Mock(**{"count_resent.return_value": resent}) for _ in range(2 if said else 1)])
+            step = traffic._judged(trip, "messages", traffic.Echoes(100, [0.001] * 100), 1.0, False)
+            self.assertEqual((step.outcome, step.advice[:len(said) or 9]), (Outcome.OK, said))
+
+
+class Balancers(unittest.TestCase):
+    def test_what_follows_from_one_does_not_fail(self) -> None:
+        failed = Step("permission", Outcome.FAILED, "refused: 437", 0.0, "Mend it.", {"code": 437})
+        rows = ((0, "permission", Outcome.FAILED), (2, "permission", Outcome.NOTE), (2, "udp", Outcome.FAILED))
+        for stale, name, outcome in rows:
+            step = extras.blamed_on_balancer(replace(failed, name=name), [mock.Mock(stale_early=stale)])
+            self.assertEqual((step.outcome, "`balancer`" in step.advice), (outcome, outcome is Outcome.NOTE))
+
+
+class PartOfThePorts(unittest.TestCase):
+    """Two relayed addresses, of which a firewall lets packets in to some."""
+
+    def tried(self, *reached: int) -> Step:
+        """The step `outside`, where packets get to these of both."""
+        exchanges = [mock.Mock(), mock.Mock()]
+        for it in exchanges:
+            it.wire.local, it.round_trip.return_value = ("127.0.0.1", 9), 0.0
+        with contextlib.ExitStack() as stack:
+            relays = [stack.enter_context(socket.socket(type=socket.SOCK_DGRAM)) for _ in exchanges]
+            for sock in relays:
+                sock.bind(("127.0.0.1", 0))
+                sock.settimeout(5.0)
+            own = [Address(*it.getsockname()) for it in relays]
+            tried = stack.enter_context(outside.Outside(exchanges[0], own[0], ["127.0.0.1"]))
+            tried.begin()
+            tried.send_further(exchanges[1], own[1])
+            for number in reached:
+                for _ in range(outside.COUNT):
+                    data, source = relays[number].recvfrom(100)
+                    exchanges[number].on_data(data, Address(*source))
+            step = tried.finish([])
+        return step
+
+    def test_one_that_is_not_reached_is_named(self) -> None:
+        for reached in (0, 1):
+            step = self.tried(reached)
+            self.assertEqual((step.facts["in"], step.facts["further_in"]), (3 - 3 * reached, 3 * reached))
+            self.assertEqual(step.outcome, Outcome.FAILED)
+            self.assertIn("a part of the relay ports", step.advice)
+
+    def test_both_or_none(self) -> None:
+        self.assertIn("(egress)", self.tried(0, 1).advice)  # These exchanges send nothing.
+        self.assertIn("not the relay ports", self.tried().advice)
+
+    def test_what_comes_of_others_is_left_to_them(self) -> None:
+        exchange, came = mock.Mock(), mock.Mock()
+        exchange.wire.local, exchange.on_data = ("127.0.0.1", 9), came
+        with outside.Outside(mock.Mock(wire=exchange.wire), Address("127.0.0.1", 9), ["127.0.0.1"]) as tried:
+            tried.send_further(exchange, Address("127.0.0.1", 9))
+            exchange.on_data(b"of another", Address("127.0.0.1", 9))
+        came.assert_called_once_with(b"of another", Address("127.0.0.1", 9))
 
 
 class Security(unittest.TestCase):
@@ -147,6 +218,19 @@ class Handshake(unittest.TestCase):
                 status, found = json_of(f"turns:localhost:{port}", "--ca", certificate)
                 self.assertEqual((status, found["steps"][-1]["name"], found["steps"][-1]["outcome"]), (1, "tls", "failed"))
                 self.assertNotIn("error", found)
+
+
+@unittest.skipUnless(coturn.IS_HERE, coturn.WHY)
+class Connections(unittest.TestCase):
+    def test_one_that_is_not_made_in_time_is_no_refusal(self) -> None:
+        def connect(*words: Any, **more: Any) -> Any:
+            raise socket.timeout("timed out")
+
+        with coturn.coturn() as server, mock.patch("yarrowdoor.command.driver.connect_stream", connect):
+            status, found = json_of(server.uri())
+        step = found["steps"][-1]
+        self.assertEqual((status, step["name"], step["outcome"]), (1, "connection", "failed"))
+        self.assertIn("was not made in time: packets are lost on the way", step["advice"])
 
 
 class Json(unittest.TestCase):

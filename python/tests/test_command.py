@@ -19,7 +19,7 @@ from yarrowdoor.command import credentials, knock, main as entry, output
 from yarrowdoor.command.challenge import Challenge
 from yarrowdoor.command.steps import Outcome, Step
 
-from .server import ALLOCATE, COOKIE, attribute, parse
+from .server import ALLOCATE, COOKIE, Allocation, Message, Where, attribute, parse
 from .test_wheel import BACKEND, wheel_with
 from .threaded import Ipv4Server, Threaded
 from .turn_servers import limit
@@ -48,15 +48,17 @@ def check(server: Threaded, *words: str, env: Optional[Dict[str, str]] = None) -
 
 class Words(unittest.TestCase):
     def test_help_of_each_fits_a_screen(self) -> None:
-        for words in ("", "check", "echo", "relay", "bench"):
+        for words in ("", "check", "echo", "relay", "bench", "probe", "load"):
             status, out, _ = command(*words.split(), "--help", env={"COLUMNS": "80"})
             self.assertEqual(status, 0)
-            self.assertLessEqual(len(out.splitlines()), 32, words)
+            self.assertLessEqual(len(out.splitlines()), 34, words)
 
     def test_what_is_no_word_cannot_be_tried(self) -> None:
         rows = [("check", "URI"), ("check http://x", "'http://x' has not the form turn:"), ("ping", "ping"), ("", "COMMAND"),
                 ("relay turn:h", "--peer"), ("echo turn:h --peer host:1", "'host:1' is not an IP address"),
-                ("bench turn:h --size 5", "'5' is not a number of bytes")]
+                ("bench turn:h --size 5", "'5' is not a number of bytes"), ("load turn:h --rate 0", "'0' is not a number"),
+                ("load turn:h --packets x", "'x' is not a number"), ("probe turn:h --every nan", "'nan' is not a number"),
+                ("probe turn:h --listen 9643", "'9643' is not an IP address with a port")]
         for words, said in rows:
             status, _, errors = command(*words.split())
             self.assertEqual(status, 2, words)
@@ -166,6 +168,21 @@ class Servers(unittest.TestCase):
                 self.assertEqual((status, steps["allocation"]["outcome"]), (1, "failed"))
                 self.assertIn(said, steps["allocation"]["advice"])
                 self.assertLess(steps["allocation"]["seconds"], limit(1.0))
+
+    def test_a_local_port_that_is_taken_is_changed_for_another(self) -> None:
+        class Taken(Ipv4Server):
+            """It has something of the first two local ports."""
+
+            seen: "set[int]" = set()
+
+            def allocate(self, message: Message, source: Where, allocation: Optional[Allocation], now: float) -> bytes:
+                self.seen.add(source[1])
+                return self.error(message, 437) if len(self.seen) < 3 else super().allocate(message, source, allocation, now)
+
+        with Threaded(Taken()) as server:
+            _, steps = check(server)
+            self.assertEqual(server.server.allocations, {})
+        self.assertEqual((steps["permission"]["outcome"], steps["messages"]["outcome"]), ("ok", "ok"))
 
     def test_a_forged_refusal_is_none(self) -> None:
         # Who sees the request may send an error for it, which nobody has signed: the server's own answer counts.

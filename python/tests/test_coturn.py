@@ -115,12 +115,12 @@ class Coturn(unittest.IsolatedAsyncioTestCase):
     async def test_a_certificate_for_another_name(self) -> None:
         trusting = self.tls()
         relay = TurnClient(self.server.uri("turns:127.0.0.2:{tls_port}"), "user", "pass", ssl=trusting)
-        connect, loop = asyncio.get_running_loop().create_connection, asyncio.get_running_loop()
+        connect, loop = asyncio.get_running_loop().sock_connect, asyncio.get_running_loop()
 
-        async def connect_here(made: Any, host: str, port: int, **options: Any) -> Any:
-            return await connect(made, "127.0.0.1", port, **options)
+        async def connect_here(sock: Any, where: Any) -> None:
+            await connect(sock, ("127.0.0.1", where[1]))
 
-        with unittest.mock.patch.object(loop, "create_connection", connect_here):
+        with unittest.mock.patch.object(loop, "sock_connect", connect_here):
             with self.assertRaisesRegex(AllocationFailed, "certificate is not valid for '127.0.0.2'") as failed:
                 await relay.open()
         self.assertIsInstance(failed.exception.__cause__, ssl.SSLCertVerificationError)

@@ -9,7 +9,7 @@ from yarrowdoor import Address, Refused, TurnClient, address
 from yarrowdoor import client as sans_io
 from yarrowdoor.kept import MOST, Kept
 
-from .network import Network, StreamEndpoint
+from .network import CLIENT, SECOND, Network, StreamEndpoint
 from .server import Server
 
 
@@ -43,6 +43,24 @@ class Data(unittest.TestCase):
             for given in (data, bytearray(data)):
                 for packet in (client.send_to(self.peer, given, now).data, client.data_to(self.peer, given, now)):
                     self.assertEqual((len(packet), packet[36:36 + size]), (36 + (size + 3) // 4 * 4, data))
+
+    def test_data_makes_nothing_due_earlier(self) -> None:
+        """Who sends data, or takes some, need not ask again what is due: no packet, no event, and no earlier time."""
+        client = self.network.client
+        for has_channel in (False, True):
+            if has_channel:
+                client.bind_channel(self.peer, self.network.now)
+                self.network.run(4)
+            now = self.network.now
+            before = client.poll(now)
+            client.data_to(self.peer, b"out", now)
+            for data, _ in self.network.server.from_peer(b"in", self.peer, CLIENT, now / SECOND):
+                found = client.data_from(data, now)
+                self.assertEqual(found[0] if isinstance(found, tuple) else found, b"in")
+            self.assertEqual((client.poll_transmit(now), client.poll_event()), (None, None))
+            after = client.poll(now)
+            assert isinstance(before, sans_io.WaitUntil) and isinstance(after, sans_io.WaitUntil)
+            self.assertGreaterEqual(after.time, before.time)
 
     def test_what_stands_around_the_data(self) -> None:
         """The head, the data and the padding are what `data_to` makes, but for the transaction ID (RFC 8489, section 5)."""

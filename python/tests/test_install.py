@@ -87,10 +87,17 @@ class Installed(unittest.TestCase):
                 self.assertEqual(ran.returncode, 0, ran.stdout)
                 path, version = self.shown(YARROWDOOR_LIB=self.library)
                 self.assertEqual(path, self.library)
-                self.assertRegex(version, r"^[0-9.]+\+unproved$")
+                self.assertRegex(version, r"^[0-9.]+$" if words[0].endswith(".tar.gz") else r"^[0-9.]+\+unproved$")
                 # Without it, one sentence says what is missing.
                 said = self.run_python("-c", SHOW).splitlines()[-1]
                 self.assertRegex(said, r"^yarrowdoor\.errors\.LibraryError: the library for C is not loaded: .*builds it$")
+
+    def test_an_archive_in_an_index(self) -> None:
+        """pip refuses one of which it makes another version than the index has."""
+        folder = os.path.dirname(self.build("build_sdist"))
+        ran = self.pip("--find-links", folder, "yarrowdoor", YARROWDOOR_LIB=self.library)
+        self.assertEqual(ran.returncode, 0, ran.stdout)
+        self.assertRegex(self.shown(YARROWDOOR_LIB=self.library)[1], r"^[0-9.]+$")
 
     def test_sources_where_the_system_has_a_library(self) -> None:
         folder = self.dist()

@@ -5,14 +5,17 @@ import threading
 import time
 import unittest
 from typing import Any, Callable, Dict, List
+from unittest import mock
 
-from yarrowdoor import Ended, Refused, handle, loop_thread, sync, threads
+from yarrowdoor import Ended, Refused, handle, loop_thread, session, sync, threads
 
 from .server import Server
 from .steps import interrupt, interrupted
 from .threaded import Threaded
 
 PEER = ("10.1.0.1", 9)
+# How long a call, and closing after it, may take, in seconds. What hangs takes longer.
+LIMIT = 10.0
 FILES = [str(it.__file__) for it in (handle, loop_thread, sync, threads)]
 # Only each so many-th step of a call is interrupted by a handler that closes, since each needs another client.
 STRIDE = 7
@@ -27,6 +30,11 @@ CALLS: Dict[str, Callable[[sync.TurnClient], object]] = {
 
 class Signals(unittest.TestCase):
     def setUp(self) -> None:
+        # A busy machine may take long for an answer, which closing waits two seconds for.
+        for module, name in ((session, "DELETE_WAIT"), (sync, "CLOSE_WAIT")):
+            patient = mock.patch.object(module, name, 2 * LIMIT)
+            patient.start()
+            self.addCleanup(patient.stop)
         self.endpoint = Threaded(Server())
         self.endpoint.__enter__()
         self.addCleanup(self.endpoint.__exit__, None, None, None)
@@ -38,7 +46,7 @@ class Signals(unittest.TestCase):
         return relay
 
     def check_given_back(self, relay: sync.TurnClient, since: float) -> None:
-        self.assertLess(time.monotonic() - since, 1.5)
+        self.assertLess(time.monotonic() - since, LIMIT)
         self.assertTrue(relay.closed)
         self.assertEqual(self.endpoint.server.allocations, {})
         with self.assertRaises(Ended):
@@ -80,7 +88,7 @@ class Signals(unittest.TestCase):
             has_run = interrupted(relay.open, step, FILES)
             relay.close()
             with self.subTest(step=step):
-                while self.endpoint.server.allocations and time.monotonic() < start + 1.5:
+                while self.endpoint.server.allocations and time.monotonic() < start + LIMIT:
                     time.sleep(0.001)
                 self.assertEqual(self.endpoint.server.allocations, {})
             if not has_run:

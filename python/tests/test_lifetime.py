@@ -3,6 +3,7 @@ import asyncio
 import gc
 import os
 import pathlib
+import socket
 import subprocess
 import sys
 import textwrap
@@ -12,7 +13,7 @@ import warnings
 import weakref
 from typing import Any, List
 
-from yarrowdoor import AllocationFailed, Ended, TurnClient, WrongCredentials
+from yarrowdoor import AllocationFailed, Ended, Relay, TurnClient, WrongCredentials
 
 from .network import Endpoint, StreamEndpoint
 from .server import Server
@@ -243,6 +244,73 @@ class Arguments(unittest.IsolatedAsyncioTestCase):
         for wrong in numbers:
             with self.subTest(**wrong), self.assertRaises(ValueError):
                 TurnClient("turn:127.0.0.1", "user", "pass", **wrong)
+
+
+class Aborted(unittest.IsolatedAsyncioTestCase):
+    """Nothing is waited for, and the relayed address is deleted all the same."""
+
+    async def given_back(self, endpoint: Any) -> None:
+        for _ in range(500):
+            if not endpoint.server.allocations:
+                return
+            await asyncio.sleep(0.01)
+        self.fail("the server still has the relayed address")
+
+    async def test_at_once(self) -> None:
+        """Also where a request has left just before, after which there is a pause, and others wait."""
+        makers: List[Any] = [Endpoint.start, StreamEndpoint.start]
+        kinds: List[Any] = [TurnClient, Relay]
+        for start, kind in ((start, kind) for start in makers for kind in kinds):
+            with self.subTest(start=start, kind=kind):
+                endpoint = await start(Server())
+                relay = kind(endpoint.uri, "user", "pass", pause=0.5)
+                await relay.open()
+                await relay.permit("10.1.0.1")
+                asking = [asyncio.ensure_future(relay.permit(f"10.1.0.{it}")) for it in range(2, 6)]
+                receiving = asyncio.ensure_future(relay.receive())
+                await asyncio.sleep(0)
+                relay.abort()
+                self.assertTrue(relay.closed)
+                with self.assertRaisesRegex(Ended, "closed$"):
+                    relay.sendto(b"x", ("10.1.0.1", 9))
+                found = await asyncio.gather(*asking, receiving, return_exceptions=True)
+                self.assertEqual({type(it) for it in found}, {Ended})
+                await relay.wait_closed()
+                await self.given_back(endpoint)
+                relay.abort()
+                await relay.close()
+                endpoint.close()
+
+    async def test_while_it_opens(self) -> None:
+        endpoint: Any = await Endpoint.start(Server())
+        self.addCleanup(endpoint.close)
+        send = endpoint.send
+        endpoint.send = lambda *it: asyncio.get_running_loop().call_later(0.1, send, *it)
+        kinds: List[Any] = [TurnClient, Relay]
+        for kind in kinds:
+            relay = kind(endpoint.uri, "user", "pass")
+            relay.abort()
+            if kind is Relay:  # as `close` does
+                relay = kind(endpoint.uri, "user", "pass")
+            opening = asyncio.ensure_future(relay.open())
+            while not endpoint.server.allocations:
+                await asyncio.sleep(0.005)
+            relay.abort()
+            self.assertTrue(relay.closed)
+            with self.assertRaisesRegex(AllocationFailed, "was closed$"):
+                await asyncio.wait_for(opening, 5)
+            await self.given_back(endpoint)
+
+    async def test_a_silent_server(self) -> None:
+        endpoint = await Endpoint.start(Server())
+        self.addCleanup(endpoint.close)
+        relay = TurnClient(endpoint.uri, "user", "pass")
+        await relay.open()
+        local = relay.local_address
+        endpoint.server.is_dead = True
+        relay.abort()
+        with socket.socket(type=socket.SOCK_DGRAM) as again:
+            again.bind(local)  # which the client has closed
 
 
 class Abandoned(unittest.IsolatedAsyncioTestCase):

@@ -4,9 +4,10 @@ import errno
 import socket
 import unittest
 import unittest.mock
-from typing import Any, List
+from typing import Any, List, Tuple
+from unittest import mock
 
-from yarrowdoor.link import BATCH, MAX_LATE, DatagramLink, Link, LinkUser
+from yarrowdoor.link import BATCH, MAX_LATE, SLICE, DatagramLink, Link, LinkUser, StreamLink
 
 
 class User(LinkUser):
@@ -154,6 +155,53 @@ class Datagrams(unittest.IsolatedAsyncioTestCase):
                 with unittest.mock.patch.object(self.link._loop, "add_reader") as add:
                     self.link._read()
             add.assert_called_once_with(self.sock.fileno(), self.link._read)
+
+
+class Slices(unittest.IsolatedAsyncioTestCase):
+    """Long pieces of the connection to the server."""
+
+    def made(self) -> Tuple[StreamLink, mock.Mock, List[bytes]]:
+        link, transport, came = StreamLink(), mock.Mock(), []  # type: StreamLink, mock.Mock, List[bytes]
+        transport.is_closing.return_value = False
+        transport.get_extra_info.return_value = None
+        link.transport, link.has_slices = transport, True
+        link._received = lambda data, _: came.append(data)
+        return link, transport, came
+
+    async def test_the_event_loop_goes_on_between_them(self) -> None:
+        """Nothing is read meanwhile, and what an event loop gives all the same has its place behind them."""
+        link, transport, came = self.made()
+        with mock.patch("yarrowdoor.link.AT_ONCE", 0.0):
+            link.data_received(b"a" * SLICE + b"b" * SLICE + b"c")
+            self.assertEqual([it[:1] for it in came], [b"a"])
+            link.data_received(b"d")
+            for count in (2, 3, 4):
+                self.assertFalse(transport.resume_reading.called)
+                await asyncio.sleep(0)
+                self.assertEqual(len(came), count)
+        self.assertEqual(b"".join(came), b"a" * SLICE + b"b" * SLICE + b"cd")
+        self.assertEqual((transport.pause_reading.call_count, transport.resume_reading.call_count), (1, 1))
+
+    async def test_one_that_raises_keeps_no_other(self) -> None:
+        link, transport, came = self.made()
+        taker = mock.Mock(side_effect=[MemoryError, None])
+        link._received = taker
+        with self.assertRaises(MemoryError):
+            link.data_received(b"a" * SLICE + b"b")
+        await asyncio.sleep(0)
+        self.assertEqual(taker.call_count, 2)
+        self.assertTrue(transport.resume_reading.called)
+
+    async def test_the_end_comes_after_them(self) -> None:
+        link, transport, came = self.made()
+        user = mock.Mock(spec=LinkUser)
+        user.received.side_effect = lambda data, _: came.append(data)
+        user.ended.side_effect = lambda _, error: came.append(b"end")
+        link.user = user
+        with mock.patch("yarrowdoor.link.AT_ONCE", 0.0):
+            link.data_received(b"a" * SLICE + b"b")
+            link.connection_lost(None)
+        self.assertEqual([it[:3] for it in came], [b"aaa", b"b", b"end"])
 
 
 if __name__ == "__main__":

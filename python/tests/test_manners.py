@@ -1,6 +1,7 @@
 """What clients say of themselves, and how they behave where one guesses: copies, limits of time, and errors."""
 import asyncio
 import copy
+import inspect
 import pickle
 import socket
 import ssl
@@ -9,7 +10,10 @@ import unittest
 import unittest.mock
 from typing import Any, Callable, List
 
-from yarrowdoor import AllocationFailed, Ended, PermissionFailed, Relay, TurnClient
+import yarrowdoor
+from yarrowdoor import (
+    AllocationFailed, Ended, PermissionFailed, Relay, TurnClient, create_datagram_endpoint, open_connection, start_server, sync,
+)
 from yarrowdoor.path import Check
 
 from .server import Server
@@ -50,6 +54,27 @@ class Manners(Case):
             for text in said:
                 self.assertIn(endpoint.uri, text)
                 self.assertNotIn(SECRET, text)
+
+    async def test_arguments_of_other_packages(self) -> None:
+        """The error says what to write in their place."""
+        uri, both = "turn:127.0.0.1", ("user", "pass")
+        makers: List[Any] = [TurnClient, Relay, sync.TurnClient]
+        calls: List[Any] = [lambda **given: create_datagram_endpoint(uri, asyncio.DatagramProtocol, credentials=both, **given),
+                            lambda **given: open_connection(f"{uri}?transport=tcp", "10.1.0.1", 9, credentials=both, **given),
+                            lambda **given: start_server(f"{uri}?transport=tcp", print, credentials=both, **given)]
+        for guess, hint in (("username", "`user`"), ("ssl_context", "`ssl`"), ("host", "is a URI"), ("port", "in the URI")):
+            for make in makers:
+                with self.assertRaisesRegex(TypeError, f"^there is no argument '{guess}': .*{hint}"):
+                    make(uri, **{guess: "x"})
+            for call in calls if guess not in ("host", "port") else calls[:1]:  # which are of the peer there
+                with self.assertRaisesRegex(TypeError, f"^there is no argument '{guess}': .*{hint}"):
+                    await call(**{guess: "x"})
+        with self.assertRaisesRegex(TypeError, "'timeout': .*`open_timeout`"):
+            TurnClient(uri, *both, timeout=5)  # type: ignore[call-arg]
+        with self.assertRaisesRegex(AttributeError, "^module 'yarrowdoor' has no attribute 'connect': use `async with TurnClient"):
+            getattr(yarrowdoor, "connect")
+        self.assertFalse(hasattr(yarrowdoor, "nonsense"))
+        self.assertEqual([*inspect.signature(TurnClient).parameters][:3], ["uri", "user", "password"])
 
     async def test_errors_of_those_who_wait_together(self) -> None:
         """Each has one of its own, whose traceback is its own."""

@@ -117,15 +117,15 @@ class Names(unittest.IsolatedAsyncioTestCase):
     async def test_a_first_address_that_is_silent_over_tcp(self) -> None:
         endpoint = await StreamEndpoint.start(Server())
         self.addCleanup(endpoint.close)
-        connect = asyncio.get_running_loop().create_connection
+        connect = asyncio.get_running_loop().sock_connect
 
-        async def connect_or_hang(made: Any, host: str, port: int, **options: Any) -> Any:
-            if host == "127.0.0.2":
+        async def connect_or_hang(sock: Any, where: Any) -> None:
+            if where[0] == "127.0.0.2":
                 await asyncio.sleep(60)
-            return await connect(made, host, port, **options)
+            await connect(sock, where)
 
         with resolving("127.0.0.2", "127.0.0.1"):
-            with unittest.mock.patch.object(asyncio.get_running_loop(), "create_connection", connect_or_hang):
+            with unittest.mock.patch.object(asyncio.get_running_loop(), "sock_connect", connect_or_hang):
                 uri = TurnUri("turn.example.org", port_of(endpoint.uri), "tcp")
                 relay = TurnClient(uri, "user", "pass")
                 await asyncio.wait_for(relay.open(), 20)

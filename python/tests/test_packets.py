@@ -40,6 +40,8 @@ def run(*words: str) -> Dict[str, Any]:
     if program.returncode:
         raise AssertionError(f"{words}: {program.returncode} {out} {errors}")
     found: Dict[str, Any] = json.loads(out)
+    if found["version"] != 1:
+        raise AssertionError(out)
     return found
 
 

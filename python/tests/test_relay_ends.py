@@ -9,6 +9,7 @@ import unittest
 from typing import Any, Callable, List, Optional, Tuple
 
 from yarrowdoor import AllocationFailed, Backoff, Down, Ended, Relay, Up, WrongCredentials
+from yarrowdoor.tries import Failures
 
 from .network import StreamEndpoint
 from .server import CREATE_PERMISSION, Where, parse
@@ -57,6 +58,20 @@ class Credentials(Case):
         for call in calls:
             with self.assertRaisesRegex(Ended, "user name or password are wrong"):
                 await call()
+
+    async def test_wrong_ones_count_in_a_row(self) -> None:
+        """A try that fails otherwise clears them, and so do they what a quota counts. A relay that is up clears both."""
+        wrong, silent, full = WrongCredentials("wrong", (401, "no")), AllocationFailed("silent"), AllocationFailed("", (486, ""))
+        rows: List[Tuple[List[Exception], int]] = [
+            ([wrong, wrong], 1), ([wrong, silent, wrong, full, wrong, wrong], 5), ([full, full, full], 2),
+            ([full, full, silent, full, full, wrong, full, full, full], 8)]
+        for errors, last in rows:
+            failures = Failures()
+            self.assertEqual([it for it, error in enumerate(errors) if failures.is_final(error)], [last])
+        failures = Failures()
+        self.assertFalse(failures.is_final(wrong))
+        failures.clear()
+        self.assertFalse(failures.is_final(wrong))
 
     async def test_a_function_is_asked_once_more(self) -> None:
         endpoint = await self.serve(Restarting())

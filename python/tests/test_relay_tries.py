@@ -1,14 +1,19 @@
 """How often a relay that comes back tries, how long a try may take, and who is asked for credentials."""
 import asyncio
+import contextlib
 import functools
 import itertools
 import socket
+import ssl
+import tempfile
 import unittest
 from typing import Any, Callable, Dict, Iterator, List, Tuple
+from unittest import mock
 
 from yarrowdoor import Backoff, Clock, Down, Ended, Refused, Relay, Times, TurnClient, Up, rest_credentials
 from yarrowdoor.tries import HELD
 
+from .coturn import make_certificate
 from .leaps import LoopClock, run
 from .network import Endpoint, StreamEndpoint
 from .server import ALLOCATE, Server, Where
@@ -37,6 +42,39 @@ class Late(Endpoint):
     def answer(self, data: bytes, source: Where) -> None:
         if not self.transport.is_closing():
             super().datagram_received(data, source)
+
+
+class LatePath:
+    """A path to a server over TCP on which each piece of the server comes late, in seconds."""
+
+    @classmethod
+    async def start(cls, server: Where, delay: float) -> "LatePath":
+        path = cls()
+        path.server, path.delay, path.writers = server, delay, []
+        path.listener = await asyncio.start_server(path.carry, "127.0.0.1", 0)
+        path.where = path.listener.sockets[0].getsockname()
+        return path
+
+    server: Where
+    delay: float
+    where: Where
+    listener: asyncio.AbstractServer
+    writers: List[asyncio.StreamWriter]
+
+    async def carry(self, reader: asyncio.StreamReader, writer: asyncio.StreamWriter) -> None:
+        its_reader, its_writer = await asyncio.open_connection(*self.server)
+        self.writers += [writer, its_writer]
+        await asyncio.gather(self.pass_on(reader, its_writer, 0.0), self.pass_on(its_reader, writer, self.delay))
+
+    async def pass_on(self, reader: asyncio.StreamReader, writer: asyncio.StreamWriter, delay: float) -> None:
+        with contextlib.suppress(OSError):
+            while data := await reader.read(65_536):
+                asyncio.get_running_loop().call_later(delay, writer.write, data)
+
+    def close(self) -> None:
+        self.listener.close()
+        for it in self.writers:
+            it.close()
 
 
 class Granting(Restarting):
@@ -92,6 +130,42 @@ class Tries(unittest.TestCase):
         choices: List[Dict[str, Any]] = [{}, {"times": Times()}]
         for settings in choices:
             self.assertAlmostEqual(run(opened(settings)), 4.0, delta=0.5)
+
+    def test_a_slow_path_over_tls(self) -> None:
+        """TCP, each of the flights of TLS, and two answers take 2 s each, or nearly three."""
+        for version, flights, delay in ((ssl.TLSVersion.TLSv1_2, 2, 2.0), (ssl.TLSVersion.TLSv1_3, 1, 2.0),
+                                        (ssl.TLSVersion.TLSv1_2, 2, 2.8)):
+            with self.subTest(version=version, delay=delay):
+                took = run(self.opened_over_tls(version, delay))
+                self.assertAlmostEqual(took, delay * (1 + flights + 2), delta=0.5)
+
+    async def opened_over_tls(self, version: ssl.TLSVersion, delay: float) -> float:
+        with tempfile.TemporaryDirectory() as room:
+            files = make_certificate(room)
+            if not files:
+                self.skipTest("openssl is not installed")
+            there, here = ssl.SSLContext(ssl.PROTOCOL_TLS_SERVER), ssl.create_default_context(cafile=files[0])
+            there.load_cert_chain(*files)
+        there.maximum_version = version
+        loop, server = asyncio.get_running_loop(), StreamEndpoint(Server())
+        server.listener = await asyncio.start_server(server.serve, "127.0.0.1", 0, ssl=there)
+        path = await LatePath.start(server.listener.sockets[0].getsockname(), delay)
+        relay = Relay(f"turns:{path.where[0]}:{path.where[1]}", "user", "pass", clock=LoopClock(), ssl=here)
+        connect = loop.sock_connect
+
+        async def late(sock: socket.socket, where: Any) -> None:
+            await asyncio.sleep(delay if where == path.where else 0)
+            await connect(sock, where)
+
+        with mock.patch.object(loop, "sock_connect", late):
+            opening = asyncio.ensure_future(relay.open())
+            await asyncio.wait([opening], timeout=40)
+            took = loop.time()
+        await relay.close()
+        path.close()
+        server.close()
+        self.assertTrue(opening.done() and not opening.exception(), "it is not up")
+        return took
 
 
 class Places(Case):

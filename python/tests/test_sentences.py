@@ -45,6 +45,7 @@ class Addresses(unittest.TestCase):
             self.assertIn(said, advice.about_peer(ip, denied))
             self.assertIn("(403 Forbidden)", advice.about_peer(ip, denied))
         self.assertIn("an error without a code", advice.about_peer("10.0.0.1", Said(0, "", True, 0.0)))
+        self.assertIn("PermissionHandler", advice.about_peer("10.0.0.1", Said(0, "", True, 0.0)))
         self.assertIn("answered nothing", advice.about_peer("10.0.0.1", None))
 
 

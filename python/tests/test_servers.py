@@ -200,13 +200,18 @@ class Redirects(Case):
         self.assertEqual((server.uri.host, server.uri.port, server.uri.secure), ("192.0.2.7", 5350, True))
         names: List[Any] = []
 
-        async def connect(factory: Any, host: str, port: int, **settings: Any) -> Any:
-            names.append((host, port, settings["server_hostname"], settings["ssl"]))
+        async def reach(sock: socket.socket, where: Any) -> None:
+            names.append(where)
+
+        async def connect(factory: Any, sock: socket.socket, **settings: Any) -> Any:
+            names.append((settings["server_hostname"], settings["ssl"]))
+            sock.close()
             raise OSError("enough")
 
-        with unittest.mock.patch.object(asyncio.get_running_loop(), "create_connection", connect), self.assertRaises(OSError):
+        loop = asyncio.get_running_loop()
+        with unittest.mock.patch.multiple(loop, sock_connect=reach, create_connection=connect), self.assertRaises(OSError):
             await server.connect("192.0.2.7")
-        self.assertEqual(names, [("192.0.2.7", 5350, "turn.example.org", context)])
+        self.assertEqual(names, [("192.0.2.7", 5350), ("turn.example.org", context)])
 
 
 if __name__ == "__main__":

@@ -14,6 +14,7 @@ import threading
 import time
 import unittest
 from typing import Any, Callable, Iterator, List, Tuple
+from unittest import mock
 
 from yarrowdoor import AllocationFailed, Clock, Ended, Lost, PermissionFailed, TurnClient, sync
 from yarrowdoor.wire import Tap, Wire
@@ -111,6 +112,22 @@ class OverUdp(unittest.TestCase):
 
         endpoint, _ = self.relay(Server())
         self.assertEqual(asyncio.run(count(endpoint.uri)), 40)
+
+    def test_aborting_waits_for_nothing(self) -> None:
+        """The relayed address is deleted all the same, also where a signal's handler or the receiver calls it."""
+        endpoint, relay = self.relay(Server(), pause=1.0)
+        relay.permit(PEER[0])
+        start = time.monotonic()
+        relay.abort()
+        self.assertTrue(relay.closed)
+        while endpoint.server.allocations and time.monotonic() < start + 20:
+            time.sleep(0.005)
+        self.assertEqual(endpoint.server.allocations, {})
+        relay.abort()
+        relay.close()
+        with self.assertRaises(Ended):
+            relay.receive()
+        sync.TurnClient(endpoint.uri, "user", "pass").abort()
 
     def test_times_are_seconds(self) -> None:
         endpoint, _ = self.relay(Server(), keepalive=0.25)
@@ -280,8 +297,7 @@ class OverTcp(unittest.TestCase):
             near = socket.create_connection(listener.getsockname())
             wire = Wire(socket.socket(fileno=fcntl.fcntl(near.fileno(), fcntl.F_DUPFD, 1_500)), Tap())
             near.close()
-            wire.patience = 0.1
-            with self.assertRaisesRegex(TimeoutError, "reads nothing"):
+            with mock.patch("yarrowdoor.wire._FULL", 0.1), self.assertRaisesRegex(TimeoutError, "reads nothing"):
                 for _ in range(100_000):
                     wire.send(bytes(65_536))
             wire.close()

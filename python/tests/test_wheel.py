@@ -194,6 +194,11 @@ class Sources(unittest.TestCase):
         return subprocess.run([sys.executable, "-B", "-c", program], cwd=self.top, env=env, stdout=subprocess.PIPE,
                               stderr=subprocess.PIPE, text=True)
 
+    def test_a_version_that_an_index_takes(self) -> None:
+        """A public one (PEP 440), in the name of the archive and in its metadata."""
+        self.assertRegex(self.top.name, r"^yarrowdoor-[0-9]+(\.[0-9]+)*$")
+        self.assertIn(f"Version: {self.top.name.partition('-')[2]}\n", (self.top / "PKG-INFO").read_text())
+
     def test_an_archive_that_is_made_twice(self) -> None:
         self.assertEqual((self.room / backend().build_sdist(str(self.room))).read_bytes(), self.archive)
         self.assertEqual(self.build("build_sdist", None).returncode, 0)
@@ -210,7 +215,7 @@ class Sources(unittest.TestCase):
         if library is None:
             self.skipTest("YARROWDOOR_LIB names no library")
         ran = self.build("build_wheel", library)
-        self.assertRegex(ran.stdout, r"^yarrowdoor-[0-9.]+\+unproved-py3-none-any\.whl\n$")
+        self.assertEqual(ran.stdout, f"{self.top.name}-py3-none-any.whl\n")
         with zipfile.ZipFile(self.room / ran.stdout.strip()) as wheel:
             self.assertFalse([it for it in wheel.namelist() if ".so" in it or it.endswith("PROOF")])
         ran = self.build("build_editable", library)

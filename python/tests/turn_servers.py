@@ -47,13 +47,18 @@ def coturn(room: str, port: int, *options: str, joins_loopback: bool = True, tls
         server.wait()
 
 
-@contextlib.contextmanager
-def pion(room: str, port: int) -> Iterator[None]:
-    """Builds and starts a server of pion."""
+def build_pion(room: str) -> str:
+    """Builds the server of pion in a folder, and gives its file."""
     program = os.path.join(room, "pion")
     env = {**os.environ, "GO111MODULE": "off", "GOPATH": GO_PATH}
     subprocess.run(["go", "build", "-p", "1", "-o", program, str(PION_SOURCE)], check=True, env=env)
-    with _ready([program, str(port)]):
+    return program
+
+
+@contextlib.contextmanager
+def pion(room: str, port: int) -> Iterator[None]:
+    """Builds and starts a server of pion."""
+    with _ready([build_pion(room), str(port)]):
         yield
 
 

@@ -12,6 +12,8 @@ asyncio gives over sockets, and `sync` is for scripts and threads.
 The library is proved, where `PROOF` in the package says so; this package is tested, and not proved. The README says how to
 begin. In a wheel it is the description: `importlib.metadata.metadata("yarrowdoor").get_payload()`.
 """
+from typing import TYPE_CHECKING
+
 from . import sync
 from .address import Address
 from .backoff import Backoff
@@ -28,6 +30,7 @@ from .credentials import Credentials, rest_credentials
 from .notices import Lost
 from .path import Check
 from .relay import Relay
+from .room import kept_grants, longest_pause
 from .states import Down, Up
 from .turn import TurnClient
 from .uri import TurnUri
@@ -37,5 +40,10 @@ __all__ = [
     "Address", "AllocationFailed", "Backoff", "Busy", "ChannelFailed", "Check", "Client", "Clock", "ConnectFailed", "Counters",
     "Credentials", "Down", "Ended", "LibraryError", "Lost", "PermissionFailed", "Refused", "Relay", "RelayServer",
     "RelayTransport", "Times", "TurnClient", "TurnUri", "Up", "WrongCredentials", "YarrowdoorError", "__version__",
-    "create_datagram_endpoint", "open_connection", "rest_credentials", "start_server", "sync",
+    "create_datagram_endpoint", "kept_grants", "longest_pause", "open_connection", "rest_credentials", "start_server", "sync",
 ]
+
+if not TYPE_CHECKING:  # Checkers of types would take any name for one of this module.
+    def __getattr__(name: str) -> None:
+        hint = ": use `async with TurnClient(uri, user, password) as relay`" if name == "connect" else ""
+        raise AttributeError(f"module {__name__!r} has no attribute {name!r}{hint}")

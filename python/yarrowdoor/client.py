@@ -34,7 +34,7 @@ from .answers import (
     Event, Handled, Ignored, Packet, PeerData, PeerIcmp, PermissionCreated, PermissionCreateFailed, Poll, Received, TcpClose,
     TcpConnected, TcpConnectFailed, WaitUntil, event_of, packet_of, poll_of,
 )
-from .errors import Refused
+from .errors import LibraryError, Refused
 from .handle import Buffer, Calls, Handle
 from .library import load
 from .settings import TRANSPORTS, Times, credential, number, packed_settings
@@ -84,7 +84,8 @@ class Client:
         settings = packed_settings(self._local, self._remote, self._way, self._relay_way, families, algorithms, anonymous, times,
                                    max_stale_nonces, pause, keepalive, refresh_ahead)
         names = credential("user", user), credential("password", password)
-        self._handle = Handle(library or load(), settings, *names, os.urandom(32) if seed is None else seed)
+        self._library = library or load()
+        self._handle = Handle(self._library, settings, *names, os.urandom(32) if seed is None else seed)
         self._way_name, self._relay_name = transport, allocation
         self._local_name, self._remote_name = socket_address(self._local), socket_address(self._remote)
         self._receive = self._handle.receiving(self._way, self._remote, self._local)
@@ -248,6 +249,15 @@ class Client:
         `Refused`: `no-allocation`.
         """
         self._ask(now, c.DELETE)
+
+    def abandon(self, now: int) -> Optional[Packet]:
+        """Gives up all allocations at once: the packet that deletes them at the server, past the pause and what is queued, or None
+        where there is none. The client has ended then: `poll` answers `Closed`. For a caller that closes its socket right away.
+        `LibraryError` where the library for C is older than this call."""
+        if not getattr(self._library, "has_abandon", True):
+            raise LibraryError("the library for C is older than this package: it has no call to abandon allocations")
+        answer, data = self._handle.call(now, c.ABANDON)
+        return packet_of(answer, data) if answer.kind == c.PACKET else None
 
     def protocol_error(self) -> None:
         """Reports an error of a layer between client and server, as TLS: each family that is still requested fails, and the client

@@ -40,6 +40,8 @@ class Alarm:
         self._clock, self._ring = clock, ring
         self._timer: Optional[asyncio.TimerHandle] = None
         self._due = -1
+        self.late = 0.0
+        """how much too late it rings, in seconds: a mean, in which the last time counts an eighth"""
 
     def set(self, due: int) -> None:
         """Rings at this time, and no longer at the one that was set before."""
@@ -52,6 +54,9 @@ class Alarm:
 
     def _rings(self) -> None:
         self._timer = None
+        late = (self._clock.now() - self._due) / 1e9
+        if late >= 0:
+            self.late += (late - self.late) / 8
         self._ring()
 
     def cancel(self) -> None:

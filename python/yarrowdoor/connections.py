@@ -6,13 +6,14 @@ import asyncio
 import contextlib
 import socket
 from types import TracebackType
-from typing import TYPE_CHECKING, Any, Awaitable, Callable, Iterable, Optional, Set, Tuple, Type, Union
+from typing import TYPE_CHECKING, Awaitable, Callable, Iterable, Optional, Tuple, Type, Union
 
 from .address import Address
 from .credentials import CredentialsLike
 from .errors import ConnectFailed, Ended, because
 from .lookup import look_up
 from .streams import Pair
+from .tasks import Tasks
 from .turn import TurnClient
 from .uri import TurnUri
 
@@ -27,7 +28,7 @@ __all__ = ["RelayServer", "open_connection", "start_server"]
 Connected = Callable[[asyncio.StreamReader, asyncio.StreamWriter], Optional[Awaitable[None]]]
 
 # What closes relays whose streams have ended.
-_closing: Set[asyncio.Future[None]] = set()
+_closing = Tasks()
 
 
 async def open_connection(uri: Union[str, TurnUri], host: str, port: int, *, credentials: CredentialsLike,
@@ -48,9 +49,7 @@ async def open_connection(uri: Union[str, TurnUri], host: str, port: int, *, cre
     except BaseException:
         await relay.close()
         raise
-    task = asyncio.ensure_future(_close_after(writer, relay))
-    _closing.add(task)
-    task.add_done_callback(_closing.discard)
+    _closing.spawn(_close_after(writer, relay))
     return reader, writer
 
 
@@ -87,8 +86,8 @@ class RelayServer:
     def __init__(self, relay: TurnClient, connected: Connected) -> None:
         self.relay = relay
         self._connected = connected
-        self._tasks: Set[asyncio.Future[Any]] = set()
-        self._spawn(self._accept())
+        self._tasks = Tasks()
+        self._tasks.spawn(self._accept())
 
     @property
     def address(self) -> Address:
@@ -105,7 +104,7 @@ class RelayServer:
 
     def close(self) -> None:
         """Deletes the relayed address, and ends its streams."""
-        self._spawn(self.relay.close())
+        self._tasks.spawn(self.relay.close())
 
     async def wait_closed(self) -> None:
         """Waits for the end. `Ended` where the relayed address was lost."""
@@ -128,7 +127,7 @@ class RelayServer:
     async def _accept(self) -> None:
         with contextlib.suppress(Ended):
             while True:
-                self._spawn(self._serve(await self.relay.accept()))
+                self._tasks.spawn(self._serve(await self.relay.accept()))
 
     async def _serve(self, pair: Pair) -> None:
         try:
@@ -139,11 +138,6 @@ class RelayServer:
             context = {"message": "the function of a start_server raised", "exception": error}
             asyncio.get_running_loop().call_exception_handler(context)
             pair[1].close()
-
-    def _spawn(self, work: Any) -> None:
-        task = asyncio.ensure_future(work)
-        self._tasks.add(task)
-        task.add_done_callback(self._tasks.discard)
 
 
 def _client(uri: Union[str, TurnUri], credentials: CredentialsLike, local_addr: Optional[Tuple[str, int]], family: int,

@@ -10,6 +10,7 @@ from typing import TYPE_CHECKING, Any, Callable, Deque, Dict, Iterable, List, Op
 from .address import Address, AddressLike, checked_peer
 from .credentials import CredentialsLike
 from .errors import Refused, YarrowdoorError
+from .tasks import Tasks
 from .turn import TurnClient
 from .uri import TurnUri
 
@@ -105,11 +106,11 @@ class RelayTransport(asyncio.DatagramTransport):
         self._bytes, self._high, self._low = 0, HIGH, LOW
         self._is_full = self._is_over_limit = self._is_paused = False
         self._refused: Dict[Address, float] = {}
-        self._tasks: Set[asyncio.Future[None]] = set()
+        self._tasks = Tasks()
         self._is_closing = self._is_lost = False
         relay.on_pause, relay.on_error = self._pause, self._tell
         protocol.connection_made(self)
-        self._spawn(self._watch())
+        self._tasks.spawn(self._watch())
 
     def take(self, data: bytes, peer: Address) -> None:
         """Takes data of a peer."""
@@ -164,7 +165,7 @@ class RelayTransport(asyncio.DatagramTransport):
             return
         if waiting is None:
             waiting = self._waiting[peer] = []
-            self._spawn(self._prepare(peer))
+            self._tasks.spawn(self._prepare(peer))
         waiting.append(data)
         self._count(len(data))
 
@@ -233,20 +234,16 @@ class RelayTransport(asyncio.DatagramTransport):
             self._is_lost = True
             asyncio.get_running_loop().call_soon(self.protocol.connection_lost, error)
 
-    def _spawn(self, work: Any) -> None:
-        task = asyncio.ensure_future(work)
-        self._tasks.add(task)
-        task.add_done_callback(self._tasks.discard)
-
     def close(self) -> None:
         """Deletes the relayed address. The protocol's `connection_lost` is called when that is done."""
         if not self._is_closing:
             self._is_closing = True
-            self._spawn(self.relay.close())
+            self._tasks.spawn(self.relay.close())
 
     def abort(self) -> None:
-        """The same, but that `connection_lost` is called soon, and the server's answer waited for after it."""
-        self.close()
+        """The same, but that nothing is waited for (`TurnClient.abort`), and `connection_lost` is called soon."""
+        self._is_closing = True
+        self.relay.abort()
         self._lose(None)
 
     def is_closing(self) -> bool:

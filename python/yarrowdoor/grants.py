@@ -40,6 +40,8 @@ class Grants:
         self._granted: Set[Key] = set()
         self._released: Set[Key] = set()
         self._rests: Dict[str, _Rest] = {}
+        self.counted: Callable[[int], None] = lambda count: None
+        """called with how many there are, when one more is granted"""
 
     async def permit(self, ip: str) -> None:
         """Asks for a permission, unless there is one, and waits for the answer. One that was released is kept again."""
@@ -120,6 +122,7 @@ class Grants:
         """The client tells that something is granted."""
         self._granted.add(key)
         self._journal.granted(key)
+        self.counted(len(self._granted) - len(self._released))
         self._rests.pop(_host(key), None)
         self._requests.settle(key, None)
 

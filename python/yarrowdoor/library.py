@@ -42,7 +42,26 @@ class Library:
         self.new: Callable[..., int] = new
         self.call: Callable[..., int] = call
         self.free: Callable[..., None] = free
+        # Calls that an older library has not.
+        self._kept_grants = getattr(loaded, "yarrowdoor_kept_grants", None)
+        self._longest_cadence = getattr(loaded, "yarrowdoor_longest_cadence", None)
+        self.has_room = self.has_abandon = self._kept_grants is not None
+        for export in (self._kept_grants, self._longest_cadence):
+            if export is not None:
+                export.restype = ctypes.c_uint64
         _check_layout(self)
+
+    def kept_grants(self, load: bytes, pause: int, refresh_ahead: int) -> int:
+        """The answer of `yarrowdoor_kept_grants`. `LibraryError` where the library is too old for it."""
+        if self._kept_grants is None:
+            raise LibraryError(f"{self.path} is older than this package: it has no yarrowdoor_kept_grants")
+        return int(self._kept_grants(ctypes.c_char_p(load), ctypes.c_uint64(pause), ctypes.c_uint64(refresh_ahead)))
+
+    def longest_cadence(self, load: bytes, count: int, refresh_ahead: int) -> int:
+        """The answer of `yarrowdoor_longest_cadence`. `LibraryError` where the library is too old for it."""
+        if self._longest_cadence is None:
+            raise LibraryError(f"{self.path} is older than this package: it has no yarrowdoor_longest_cadence")
+        return int(self._longest_cadence(ctypes.c_char_p(load), ctypes.c_uint64(count), ctypes.c_uint64(refresh_ahead)))
 
     def read_message(self, data: bytes) -> Message:
         """What these bytes are, as a datagram. It is not verified."""

@@ -4,19 +4,17 @@ from __future__ import annotations
 import asyncio
 import warnings
 from dataclasses import dataclass
-from types import TracebackType
-from typing import Any, Dict, NoReturn, Optional, Type, TypeVar, Union
+from typing import Dict, Optional, Union
 
 from .errors import AllocationFailed, Ended, because
 from .inbox import Inbox
 from .link import Link
+from .opened import Opened
 from .redirect import Redirects
 from .servers import ALONE, NoneSucceeded, Server, first_of
 from .session import Leaving, Over, Session
 
 __all__ = ["Lifetime"]
-
-_Self = TypeVar("_Self", bound="Lifetime")
 
 
 @dataclass(frozen=True)
@@ -40,7 +38,7 @@ class Failed:
     """what still gives back an allocation that the server may have granted"""
 
 
-class Lifetime:
+class Lifetime(Opened):
     """A client that is opened once, and closed. A `Session` does its work, from the time when there is a relayed address."""
 
     def __init__(self, server: Server, inbox: Inbox, redirects: int = 0, open_timeout: Optional[float] = None) -> None:
@@ -48,8 +46,6 @@ class Lifetime:
         self._server, self._inbox, self._redirects = server, inbox, Redirects(redirects)
         self._phase: Union[NotOpened, Connecting, Failed, Session] = NotOpened()
         self._rest: Optional[asyncio.Future[None]] = None
-        # How often a server has shown that it is there: by a connection, or else by an answer.
-        self._signs = 0
 
     def _session_over(self, link: Link) -> Session:
         """A new session over this link."""
@@ -63,17 +59,6 @@ class Lifetime:
         words = {NotOpened: "not opened", Connecting: "connecting", Failed: "closed"}
         what = words[type(phase)] if not isinstance(phase, Session) else repr(phase)
         return f"<{type(self).__name__} of {self._server.uri}: {what}>"
-
-    def __reduce_ex__(self, protocol: Any) -> NoReturn:
-        raise TypeError(f"a {type(self).__name__} is not copied: it has a socket, and the relayed address is deleted with it")
-
-    async def __aenter__(self: _Self) -> _Self:
-        await self.open()
-        return self
-
-    async def __aexit__(self, kind: Optional[Type[BaseException]], error: Optional[BaseException],
-                        trace: Optional[TracebackType]) -> None:
-        await self.close()
 
     def __del__(self) -> None:
         session = getattr(self, "_phase", None)
@@ -159,7 +144,6 @@ class Lifetime:
             try:
                 if not link.is_stream:  # A stream has answered when it was connected.
                     await session.heard()
-                self._signs += 1
             except BaseException:
                 await _discard(session)
                 raise
@@ -188,14 +172,26 @@ class Lifetime:
         `open` is not done yet, it ends with an `AllocationFailed`."""
         phase = self._phase
         if isinstance(phase, Connecting):
-            self._phase = Failed(Ended("the client was closed"), None)
-            self._inbox.end()
-            phase.task.cancel()
+            self.abort()
             await asyncio.wait([phase.task])
         elif isinstance(phase, Failed) and phase.rest is not None:
             await asyncio.wait([phase.rest])
         elif isinstance(phase, Session):
             await phase.leave()
+
+    def abort(self) -> None:
+        """Deletes the relayed address and closes all sockets, at once: one packet is sent, and no answer is waited for. Over UDP
+        it is not sent again, so that the server may keep the address until it expires. For a program that cannot wait.
+
+        Where `open` is not done yet, it ends with an `AllocationFailed`, and what it was granted is given back beside, for up to
+        two seconds. It does nothing where the client was not opened, or has ended."""
+        phase = self._phase
+        if isinstance(phase, Connecting):
+            self._phase = Failed(Ended("the client was closed"), None)
+            self._inbox.end()
+            phase.task.cancel()
+        elif isinstance(phase, Session):
+            phase.abort()
 
     async def wait_closed(self) -> None:
         """Waits until the client has ended. Raises `Ended` where it ended by itself, or was not opened; its text says why."""
@@ -214,11 +210,9 @@ class Lifetime:
         return isinstance(phase, Failed) or isinstance(phase, Session) and isinstance(phase.state, Over)
 
     def _is_not_opened(self) -> bool:
-        """Whether `open` was not called."""
         return isinstance(self._phase, NotOpened)
 
     def _has_failed(self) -> bool:
-        """Whether the client has ended by itself."""
         state = self._phase.state if isinstance(self._phase, Session) else None
         return not isinstance(state, Over) or state.why is not None
 
@@ -230,7 +224,6 @@ class Lifetime:
         return phase
 
     def _ending(self) -> Ended:
-        """Why a call is not made, as a new error for each."""
         phase = self._phase
         if isinstance(phase, Session):
             return phase.ending()

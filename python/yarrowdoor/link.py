@@ -6,6 +6,7 @@ import collections
 import contextlib
 import os
 import socket
+import time
 from typing import Any, Callable, Deque, Optional, cast
 
 from .address import SocketAddress, of_socket
@@ -18,6 +19,9 @@ __all__ = ["DatagramLink", "Link", "LinkUser", "StreamLink"]
 MAX_DATAGRAM, BATCH = 65_535, 32
 # After so many datagrams that came alone it is looked whether another one waits: that there is none costs as much as to read one.
 ALONE = 8
+# A longer piece of the connection to the server is taken in slices of so many bytes, and after so many seconds the event loop goes
+# on in between: 256 KiB may be 65,536 messages.
+SLICE, AT_ONCE = 8_192, 0.005
 # So many messages of the client wait for a socket over UDP that is full. A further one is lost, as a network may lose it.
 MAX_LATE = 64
 
@@ -42,6 +46,8 @@ class Link:
     """A socket to the server. Until it has a user what comes is dropped: the server sends nothing before it is asked."""
 
     is_stream = False
+    has_slices = False
+    """whether long pieces of a stream are taken in slices, between which the event loop goes on: then nobody else pauses it"""
     local: SocketAddress
     remote: SocketAddress
 
@@ -200,6 +206,7 @@ class StreamLink(Link, asyncio.Protocol):
     def __init__(self) -> None:
         super().__init__()
         self.frames: Optional[Frames] = Frames()
+        self._slices: Deque[bytes] = collections.deque()
         self._lost: asyncio.Future[None] = asyncio.get_running_loop().create_future()
 
     def connection_made(self, transport: Any) -> None:
@@ -212,13 +219,36 @@ class StreamLink(Link, asyncio.Protocol):
         _notice_silence(transport)
 
     def connection_lost(self, exc: Optional[Exception]) -> None:
+        last, self._slices = self._slices, collections.deque()
+        for piece in last:
+            self._received(piece, self)
         self.is_over = True
         self.writable.set()
         self._lost.set_result(None)
         self._user.ended(self, exc)
 
     def data_received(self, data: bytes) -> None:
-        self._received(data, self)
+        if self._slices:  # Some event loops give more of a connection over TLS that is paused.
+            self._slices.append(data)
+        elif self.has_slices and len(data) > SLICE:
+            self._slices.extend(data[place:place + SLICE] for place in range(0, len(data), SLICE))
+            self.transport.pause_reading()
+            self._take_slices()
+        else:
+            self._received(data, self)
+
+    def _take_slices(self) -> None:
+        deadline = time.monotonic() + AT_ONCE
+        try:
+            while self._slices:
+                self._received(self._slices.popleft(), self)
+                if time.monotonic() >= deadline:
+                    break
+        finally:
+            if self._slices:
+                asyncio.get_running_loop().call_soon(self._take_slices)
+            elif not self.transport.is_closing():
+                self.transport.resume_reading()
 
     def send(self, data: bytes) -> None:
         if not self.is_over and not self.transport.is_closing():

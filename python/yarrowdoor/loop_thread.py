@@ -13,6 +13,8 @@ import threading
 import weakref
 from typing import Any, Awaitable, Callable, Generic, Optional, Set, Tuple, TypeVar
 
+from .tasks import Tasks
+
 __all__ = ["LoopThread", "NotAnswered"]
 
 _Result = TypeVar("_Result")
@@ -63,7 +65,7 @@ class LoopThread:
         self.is_forked = False
         """whether this is the copy of one that runs in the process that has forked"""
         self._calls: Set[_Call[Any]] = set()
-        self._tasks: Set[asyncio.Future[Any]] = set()
+        self._tasks = Tasks()
         self._loop: Optional[asyncio.AbstractEventLoop] = None
         self._is_over = False
         self._begun: queue.SimpleQueue[Optional[OSError]] = queue.SimpleQueue()
@@ -123,20 +125,16 @@ class LoopThread:
             self._post(call.begin)
             error, result = call.answer.get(timeout=_within(seconds))
         except queue.Empty:
-            self._cancel(call)
+            self.post(call.cancel)
             raise NotAnswered(f"no answer in {seconds} s") from None
         except BaseException:
-            self._cancel(call)
+            self.post(call.cancel)
             raise
         finally:
             self._calls.discard(call)
         if error is not None:
             raise error
         return result  # type: ignore[return-value]
-
-    def _cancel(self, call: _Call[Any]) -> None:
-        with contextlib.suppress(NotAnswered):
-            self._post(call.cancel)
 
     def do(self, function: Callable[[], _Result]) -> _Result:
         """The same for a function that does not wait, also in the thread itself."""
@@ -147,13 +145,7 @@ class LoopThread:
 
     def begin(self, make: Callable[[], Awaitable[None]]) -> None:
         """Has the loop do something, and does not wait for it."""
-        def spawn() -> None:
-            task = asyncio.ensure_future(make())
-            self._tasks.add(task)
-            task.add_done_callback(self._tasks.discard)
-
-        with contextlib.suppress(NotAnswered):
-            self._post(spawn)
+        self.post(lambda: self._tasks.spawn(make()))
 
     def post(self, function: Callable[[], object]) -> None:
         """Has the loop call a function soon, unless it has ended."""

@@ -9,6 +9,7 @@ from typing import Callable, Deque, Optional, TypeVar, Union
 
 from .address import Address
 from .counters import Counters
+from .forwarding import Forwarded, Settable
 from .inbox import Inbox
 
 __all__ = ["Lost", "Notices", "Told"]
@@ -68,10 +69,7 @@ class Told:
     def __init__(self, inbox: Inbox, notices: Notices) -> None:
         self._inbox, self._notices = inbox, notices
 
-    @property
-    def dropped(self) -> int:
-        """How many packets of peers were dropped, since `queue` of them were waiting."""
-        return self._inbox.dropped
+    dropped = Forwarded[int]("_inbox", "How many packets of peers were dropped, since `queue` of them were waiting.")
 
     @property
     def unsent(self) -> int:
@@ -91,35 +89,12 @@ class Told:
         """What was sent and has come since the client was made, as it is now: a copy, which does not change."""
         return dataclasses.replace(self._notices.counters, dropped=self.dropped, unsent=self.unsent)
 
-    @property
-    def lost(self) -> Deque[Lost]:
-        """What peers have lost, the last 1,024 of it: the server does not renew it, or was restarted."""
-        return self._notices.lost
-
-    @property
-    def on_lost(self) -> Optional[Callable[[Lost], None]]:
-        """Called with each permission and channel that is lost, if it is set."""
-        return self._notices.on_lost
-
-    @on_lost.setter
-    def on_lost(self, told: Optional[Callable[[Lost], None]]) -> None:
-        self._notices.on_lost = told
-
-    @property
-    def on_error(self) -> Optional[Callable[[Exception], None]]:
-        """Called with each error of the socket over UDP that does not end it, if it is set."""
-        return self._notices.on_error
-
-    @on_error.setter
-    def on_error(self, told: Optional[Callable[[Exception], None]]) -> None:
-        self._notices.on_error = told
-
-    @property
-    def on_pause(self) -> Optional[Callable[[bool], None]]:
-        """Called with True when the socket is full, so that `sendto` drops data, and with False when it is no longer, if it is
-        set."""
-        return self._notices.on_pause
-
-    @on_pause.setter
-    def on_pause(self, told: Optional[Callable[[bool], None]]) -> None:
-        self._notices.on_pause = told
+    lost = Forwarded[Deque[Lost]](
+        "_notices", "What peers have lost, the last 1,024 of it: the server does not renew it, or was restarted.")
+    on_lost = Settable[Optional[Callable[[Lost], None]]](
+        "_notices", "Called with each permission and channel that is lost, if it is set.")
+    on_error = Settable[Optional[Callable[[Exception], None]]](
+        "_notices", "Called with each error of the socket over UDP that does not end it, if it is set.")
+    on_pause = Settable[Optional[Callable[[bool], None]]](
+        "_notices", "Called with True when the socket is full, so that `sendto` drops data, and with False when it is no longer, "
+        "if it is set.")

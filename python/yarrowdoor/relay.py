@@ -6,10 +6,7 @@ import asyncio
 import copy
 import functools
 import warnings
-from types import TracebackType
-from typing import (
-    TYPE_CHECKING, Any, AsyncIterator, Awaitable, Callable, Dict, List, NoReturn, Optional, Tuple, Type, Union,
-)
+from typing import TYPE_CHECKING, Any, AsyncIterator, Awaitable, Callable, Dict, List, Optional, Union
 
 from .address import Address, AddressLike, SocketAddress, checked_ip, checked_peer
 from .backoff import Backoff
@@ -19,6 +16,7 @@ from .credentials import Credentials, CredentialsLike, Text, one_source
 from .errors import AllocationFailed, ChannelFailed, Ended, PermissionFailed, because
 from .inbox import Inbox, Receiver
 from .notices import Notices, Told
+from .opened import Opened
 from .path import Check
 from .revival import Revival
 from .settings import check_seconds
@@ -45,7 +43,7 @@ def _client(counters: Counters, uri: Union[str, TurnUri], settings: Dict[str, An
     return client
 
 
-class Relay(Told):
+class Relay(Told, Opened):
     """A relayed address of a TURN server that comes back by itself, as another one: one `TurnClient` after the other.
 
         async with Relay("turn:turn.example.org", "user", "password", on_state=print) as relay:
@@ -106,18 +104,7 @@ class Relay(Told):
             return f"<Relay of {self._uri}: {'closed' if self._revival.is_over else 'not opened'}>"
         return f"<Relay of {self._uri}: {f'up at {self.address}' if isinstance(self.state, Up) else 'down'}>"
 
-    def __reduce_ex__(self, protocol: Any) -> NoReturn:
-        raise TypeError("a Relay is not copied: it has a socket, and the relayed address is deleted with it")
-
     # From opening to the end
-
-    async def __aenter__(self) -> Relay:
-        await self.open()
-        return self
-
-    async def __aexit__(self, kind: Optional[Type[BaseException]], error: Optional[BaseException],
-                        trace: Optional[TracebackType]) -> None:
-        await self.close()
 
     async def open(self) -> None:
         """Tries until the relay is up for the first time, or for `open_timeout` seconds: what entering does. It is called once.
@@ -142,11 +129,24 @@ class Relay(Told):
         """Deletes the relayed address, and ends the relay, when the server has answered, or after two seconds."""
         await self._revival.stop()
 
+    def abort(self) -> None:
+        """Deletes the relayed address, and ends the relay, at once, as `TurnClient.abort`."""
+        self._revival.abort()
+
     async def wait_closed(self) -> None:
         """Waits until the relay has ended. Raises `Ended` where it ended by itself, or was not opened; its text says why."""
         await self._revival.wait()
-        if self._revival.why is not None or not self._revival.is_over:
-            raise self._revival.ending()
+        if self._has_failed():
+            raise self._ending()
+
+    def _is_not_opened(self) -> bool:
+        return not self._revival.is_begun
+
+    def _has_failed(self) -> bool:
+        return self._revival.why is not None or not self._revival.is_over
+
+    def _ending(self) -> Ended:
+        return self._revival.ending()
 
     @property
     def closed(self) -> bool:
@@ -265,30 +265,3 @@ class Relay(Told):
             pass
         self._revival.check()
         self._notices.unsent += 1
-
-    def __aiter__(self) -> AsyncIterator[Tuple[bytes, Address]]:
-        return self
-
-    async def __anext__(self) -> Tuple[bytes, Address]:
-        """The next data of a peer. It goes on while the relay is down, and ends when it is closed; `Ended` where it ended by
-        itself; `RuntimeError` with `receiver=`, which takes all."""
-        found = await self._take()
-        if found is None:
-            if self._revival.why is not None:
-                raise self._revival.ending()
-            raise StopAsyncIteration
-        return found
-
-    async def _take(self) -> Optional[Tuple[bytes, Address]]:
-        if self._inbox.has_receiver:
-            raise RuntimeError("the receiver of this relay takes all data: there is none to wait for")
-        if not self._revival.is_begun:
-            return None
-        return await self._inbox.take()
-
-    async def receive(self) -> Tuple[bytes, Address]:
-        """The next data of a peer, and the peer. `Ended` where the relay has ended; `RuntimeError` with `receiver=`."""
-        found = await self._take()
-        if found is None:
-            raise self._revival.ending()
-        return found

@@ -4,11 +4,12 @@ from __future__ import annotations
 import asyncio
 import copy
 import enum
-from typing import Awaitable, Callable, Dict, Optional, Set
+from typing import Callable, Dict, Optional
 
 from .asked import Key, Record
 from .counters import Counters
 from .errors import YarrowdoorError
+from .tasks import Tasks
 
 __all__ = ["Made", "Requests", "settle"]
 
@@ -33,7 +34,7 @@ class Requests(Record):
         self._waiters: Dict[Key, asyncio.Future[None]] = {}
         self._unsent: Dict[Key, asyncio.Future[None]] = {}
         self._slots = asyncio.Semaphore(MAX_UNSENT)
-        self._tasks: Set[asyncio.Future[None]] = set()
+        self.tasks = Tasks()
 
     async def ask(self, key: Key, make: Callable[[], Made]) -> None:
         """Makes a request, and waits until `settle` says how it went. Who asks for one that is under way waits for that one. Each
@@ -41,7 +42,7 @@ class Requests(Record):
         waiter = self._waiters.get(key)
         if waiter is None or waiter.done():
             waiter = self._waiters[key] = asyncio.get_running_loop().create_future()
-            self.spawn(self._make(key, waiter, make))
+            self.tasks.spawn(self._make(key, waiter, make))
         try:
             await asyncio.shield(waiter)
         except YarrowdoorError as error:
@@ -68,12 +69,6 @@ class Requests(Record):
                 del self._waiters[key]
             if waiter.done() and not waiter.cancelled():
                 waiter.exception()  # Nobody has to wait for it any more.
-
-    def spawn(self, work: Awaitable[None]) -> None:
-        """Runs something beside, which is kept until it is done."""
-        task = asyncio.ensure_future(work)
-        self._tasks.add(task)
-        task.add_done_callback(self._tasks.discard)
 
     def sent(self, packet: bytes, now: int = 0) -> Optional[Key]:
         key = super().sent(packet, now)

@@ -2,7 +2,7 @@
 from __future__ import annotations
 
 import asyncio
-from typing import Any, List, Optional, Set
+from typing import List, Optional, Set
 
 from .address import Address
 from .asked import About
@@ -10,6 +10,7 @@ from .errors import ChannelFailed, Ended, PermissionFailed, Refused, WrongCreden
 from .inbox import Inbox
 from .notices import Lost, Notices
 from .states import Down, State, States, Up
+from .tasks import Tasks
 from .tries import HELD, Tries, Watched
 from .vigil import UNSURE, Vigil
 
@@ -32,7 +33,7 @@ class Revival:
         self._vigil: Optional[Vigil] = None
         # Whose permissions and channels the next client asks for.
         self._wanted: Set[About] = set()
-        self._tasks: Set[asyncio.Future[Any]] = set()
+        self._tasks = Tasks()
         self._running: Optional[asyncio.Future[None]] = None
         self._changed: Optional[asyncio.Event] = None
 
@@ -49,6 +50,14 @@ class Revival:
         if self._running is not None:
             self._running.cancel()
         await self.wait()
+        self._end(None)
+
+    def abort(self) -> None:
+        """Ends at once."""
+        if self.client is not None:
+            self.client.abort()
+        if self._running is not None:
+            self._running.cancel()
         self._end(None)
 
     def abandon(self) -> None:
@@ -112,12 +121,7 @@ class Revival:
 
     def _leave(self, client: Watched) -> None:
         """Closes a client beside what goes on, since the server may not answer."""
-        self._spawn(client.close())
-
-    def _spawn(self, work: Any) -> None:
-        task = asyncio.ensure_future(work)
-        self._tasks.add(task)
-        task.add_done_callback(self._tasks.discard)
+        self._tasks.spawn(client.close())
 
     def _end(self, why: Optional[Exception]) -> None:
         if self.is_over:
@@ -206,7 +210,7 @@ class Revival:
 
     def _lost(self, client: Watched, vigil: Vigil, lost: Lost) -> None:
         self._wanted.add(lost.peer)
-        self._spawn(self._regain(client, vigil, lost.peer))
+        self._tasks.spawn(self._regain(client, vigil, lost.peer))
 
     def _error(self, vigil: Vigil, error: Exception) -> None:
         vigil.doubt()

@@ -2,18 +2,19 @@
 from __future__ import annotations
 
 import asyncio
+import contextlib
 import dataclasses
 import ipaddress
 import socket
 import ssl as tls
-from typing import Awaitable, Callable, Dict, Iterable, List, Optional, Tuple, TypeVar
+import struct
+from typing import Any, Awaitable, Callable, Dict, Iterable, List, Optional, Tuple, TypeVar
 
 from .address import Address
 from .errors import AllocationFailed, YarrowdoorError, because
 from .link import DatagramLink, Link, StreamLink
 from .lookup import look_up
 from .uri import TurnUri
-from .wire import Wire, connect_stream, connect_udp
 
 __all__ = ["ALONE", "NoneSucceeded", "Server", "first_of", "interleaved"]
 
@@ -21,7 +22,10 @@ __all__ = ["ALONE", "NoneSucceeded", "Server", "first_of", "interleaved"]
 STAGGER = 0.25
 # How long an attempt takes before it is given up for the next one, where both would use the same local port, in seconds.
 ALONE = 1.5
+# Where the field tcpi_bytes_received stands in the system's structure `tcp_info` (linux/tcp.h).
+BYTES_RECEIVED = 128
 
+SocketName = Tuple[Any, ...]
 _Found = TypeVar("_Found")
 
 
@@ -42,6 +46,9 @@ class Server:
         self.uri, self._socket = uri, sock
         self._ssl = (ssl or tls.create_default_context()) if uri.secure else None
         self._local_addr, self._family, self._name = local_addr, family, name or uri.host
+        # How many connections over TCP were made, and were ready, and those that are not ready yet, since TLS is not.
+        self._steps = 0
+        self._opening: List[socket.socket] = []
 
     @property
     def ssl(self) -> Optional[tls.SSLContext]:
@@ -87,44 +94,68 @@ class Server:
         """One more connection to a server over TCP or TLS, from another port."""
         return await self._stream(host, (self._local_addr[0], 0) if self._local_addr is not None else None)
 
-    def wire(self, seconds: float) -> Wire:
-        """A socket to the server for no event loop: over UDP to the first address of its name, else to the first one that takes a
-        connection, each within so many seconds. `AllocationFailed` where there is none."""
-        try:
-            if self.uri.transport != "udp":
-                return connect_stream(self.uri.host, self.uri.port, seconds, context=self._ssl, name=self._name)
-            found = socket.getaddrinfo(self.uri.host, self.uri.port, type=socket.SOCK_DGRAM, family=self._family)
-            return connect_udp(_scoped(found[0][4]), self.uri.port)
-        except OSError as error:
-            raise because(AllocationFailed(f"no connection to {self.uri}: {error}"), error)
-
     async def _stream(self, host: str, own: Optional[Tuple[str, int]]) -> StreamLink:
-        loop, uri, name = asyncio.get_running_loop(), self.uri, self._name if self._ssl else None
         given, self._socket = self._socket, None
-        if given is not None:
-            link = (await loop.create_connection(StreamLink, sock=given, ssl=self._ssl, server_hostname=name))[1]
-        else:
-            link = (await loop.create_connection(StreamLink, host, uri.port, ssl=self._ssl, server_hostname=name,
-                                                 local_addr=own))[1]
+        sock = given or await self._connected_stream(host, own)
+        self._opening.append(sock)
+        try:
+            _, link = await asyncio.get_running_loop().create_connection(
+                StreamLink, sock=sock, ssl=self._ssl, server_hostname=self._name if self._ssl else None)
+            self._steps += 1
+        finally:
+            self._opening.remove(sock)
         if link.is_over:
             raise ConnectionResetError("the server closed the connection at once")
         return link
 
+    async def _connected_stream(self, host: str, own: Optional[Tuple[str, int]]) -> socket.socket:
+        sock, where = bound(host, self.uri.port, own, socket.SOCK_STREAM)
+        try:
+            await asyncio.get_running_loop().sock_connect(sock, where)
+            self._steps += 1
+        except BaseException:
+            sock.close()
+            raise
+        return sock
 
-def connected(host: str, port: int, own: Optional[Tuple[str, int]] = None) -> socket.socket:
-    """A new socket over UDP that is connected to this IP address, which may have a scope, from its own one, if that is given.
-    `OSError` where the system refuses it."""
-    (family, kind, protocol, _, where), *_ = socket.getaddrinfo(host, port, type=socket.SOCK_DGRAM, flags=socket.AI_NUMERICHOST)
+    @property
+    def signs(self) -> Tuple[int, int]:
+        """What shows that a server is there before it has answered a request: connections over TCP and TLS that were made, and what
+        has come over those that are not ready."""
+        return self._steps, sum(map(bytes_received, self._opening))
+
+
+def bound(host: str, port: int, own: Optional[Tuple[str, int]], kind: int) -> Tuple[socket.socket, SocketName]:
+    """A new socket for a connection to this IP address, which may have a scope, from its own one, if that is given, and the address
+    as the system has it. `OSError` where the system refuses it."""
+    (family, _, protocol, _, where), *_ = socket.getaddrinfo(host, port, type=kind, flags=socket.AI_NUMERICHOST)
     sock = socket.socket(family, kind, protocol)
     try:
         sock.setblocking(False)
         if own is not None:
             sock.bind(own)
+    except BaseException:
+        sock.close()
+        raise
+    return sock, where
+
+
+def connected(host: str, port: int, own: Optional[Tuple[str, int]] = None) -> socket.socket:
+    """A new socket over UDP that is connected. `OSError` where the system refuses it."""
+    sock, where = bound(host, port, own, socket.SOCK_DGRAM)
+    try:
         sock.connect(where)
     except BaseException:
         sock.close()
         raise
     return sock
+
+
+def bytes_received(sock: socket.socket) -> int:
+    """How many bytes have come over TCP, or 0 where the system does not say."""
+    with contextlib.suppress(OSError, struct.error):
+        return int(struct.unpack_from("=Q", sock.getsockopt(socket.IPPROTO_TCP, socket.TCP_INFO, 256), BYTES_RECEIVED)[0])
+    return 0
 
 
 def _check_socket(sock: socket.socket, uri: TurnUri) -> None:

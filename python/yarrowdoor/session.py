@@ -65,7 +65,7 @@ class Session(LinkUser):
         self.count = 0
         """how many packets, or pieces of the stream, have come"""
         self._has_streams = relay == "tcp"
-        self._alarm = Alarm(clock, functools.partial(self.drive, is_wake_up=True))
+        self.alarm = Alarm(clock, functools.partial(self.drive, is_wake_up=True))
         self._is_driving = False
         self.counters = notices.counters
         self.journal = Journal(server.uri, link, self.counters)
@@ -77,7 +77,7 @@ class Session(LinkUser):
         self._put = put if self.idle is None else self.idle.listening(put)
         self.streams = Streams(self)
         self.path = Path(self)
-        link.user = self
+        link.user, link.has_slices = self, True
         self.drive()
 
     def __repr__(self) -> str:
@@ -194,7 +194,7 @@ class Session(LinkUser):
             # The client is valid, and what was due stays due: without a timer nothing would be done any more.
             if not isinstance(self.state, Over):
                 self.journal.wants_memory()
-                self._alarm.set(self.clock.now() + MEMORY_WAIT)
+                self.alarm.set(self.clock.now() + MEMORY_WAIT)
         finally:
             self._is_driving = False
 
@@ -206,9 +206,9 @@ class Session(LinkUser):
             rest = self.client.poll(now)
             if isinstance(rest, WaitUntil):
                 if rest.time > now:
-                    return self._alarm.set(rest.time)
+                    return self.alarm.set(rest.time)
             elif isinstance(rest, AllocateTcpSocket):
-                self.requests.spawn(self.streams.open(rest))
+                self.requests.tasks.spawn(self.streams.open(rest))
             elif isinstance(rest, TcpClose):
                 self.streams.drop(rest.local)
             else:
@@ -289,16 +289,24 @@ class Session(LinkUser):
             if isinstance(before, Opening):
                 fail(before, AllocationFailed("the client was closed"))
             elif (closing := self.streams.close()):
-                self.requests.spawn(self._delete_after(closing))
+                self.requests.tasks.spawn(self._delete_after(closing))
             else:
                 self._delete()
             self.drive()
         try:
             await asyncio.wait([self.over], timeout=self._patience())
         finally:
-            self._delete_now()
-            self._transmit_delete()
-            self.end(None)
+            self.abort()
+
+    def abort(self) -> None:
+        """Gives the relayed address back by a request that nothing waits for, and ends at once."""
+        if isinstance(self.state, (Opening, Open)):
+            before, self.state = self.state, Leaving()
+            if isinstance(before, Opening):
+                fail(before, AllocationFailed("the client was closed"))
+        self._delete_now()
+        self._transmit_delete()
+        self.end(None)
 
     def _patience(self) -> float:
         """How long leaving may take, in seconds."""
@@ -336,7 +344,7 @@ class Session(LinkUser):
     def abandon(self) -> None:
         """The user has lost the client without closing it. It may be called in any thread."""
         if not self._loop.is_closed():
-            self._loop.call_soon_threadsafe(lambda: self.requests.spawn(self.leave()))
+            self._loop.call_soon_threadsafe(lambda: self.requests.tasks.spawn(self.leave()))
 
     def end(self, why: Optional[Ended]) -> None:
         """Closes all, with why it has ended by itself, or None where the user has closed it."""
@@ -354,7 +362,7 @@ class Session(LinkUser):
         self.path.end()
         self.requests.end(self.ending)
         self.streams.end()
-        self._alarm.cancel()
+        self.alarm.cancel()
         self.link.ignore()
         self.link.close()
         if self.link.is_stream:

@@ -19,6 +19,8 @@ from .client import Buffer
 from .counters import Counters
 from .credentials import Credentials, CredentialsLike, Text, check_source, one_source
 from .errors import AllocationFailed, Ended, Refused
+from .forwarding import Forwarded, Settable
+from .guesses import explained
 from .inbox import Receiver
 from .loop_thread import LoopThread, NotAnswered
 from .notices import Lost
@@ -51,6 +53,7 @@ class TurnClient:
     `RuntimeError` there. After a fork the client is the parent's: in the child each call raises `Ended`, and `close` does nothing.
     """
 
+    @explained
     def __init__(self, uri: Union[str, TurnUri], user: Optional[Text] = None, password: Optional[Text] = None, *,
                  credentials: Union[Tuple[Text, Text], Callable[[], Tuple[Text, Text]], None] = None, timeout: float = 40.0,
                  queue: int = 1024, receiver: Optional[Receiver] = None, **settings: Unpack[ClientKeywords]) -> None:
@@ -119,6 +122,21 @@ class TurnClient:
             thread.call(client.leave, CLOSE_WAIT)
         thread.join()
 
+    def abort(self) -> None:
+        """Deletes the relayed address and closes all sockets, at once, as `yarrowdoor.TurnClient.abort`."""
+        client, thread = self._client, self._thread
+        if not self._is_opened or thread.is_forked:
+            return
+        client.is_left = True
+
+        async def abort() -> None:
+            client.abort()
+
+        if thread.is_here:
+            return client.abort()
+        with contextlib.suppress(NotAnswered):
+            thread.call(abort, CLOSE_WAIT)
+
     def wait_closed(self, timeout: Optional[float] = None) -> None:
         """Waits until the client has ended. `Ended` where it ended by itself, or was not opened; its text says why. `TimeoutError`
         after so many seconds."""
@@ -137,73 +155,27 @@ class TurnClient:
         """Whether the client has ended, by `close` or by itself, or could not be opened, or is the parent's, after a fork."""
         return self._client.closed or self._thread.is_forked
 
-    @property
-    def address(self) -> Address:
-        """The relayed address, also after the end. `Ended` where there never was one."""
-        return self._client.address
-
-    @property
-    def addresses(self) -> List[Address]:
-        """All relayed addresses, as `yarrowdoor.TurnClient.addresses`."""
-        return self._client.addresses
-
-    @property
-    def mapped_address(self) -> Optional[Address]:
-        """This client's own address as the server saw it at the beginning, or None where it did not say it."""
-        return self._client.mapped_address
-
-    @property
-    def local_address(self) -> SocketAddress:
-        """The address of the socket to the server. `Ended`."""
-        return self._client.local_address
-
-    @property
-    def dropped(self) -> int:
-        """How many packets of peers were dropped, since `queue` of them were waiting."""
-        return self._client.dropped
-
-    @property
-    def unsent(self) -> int:
-        """How many packets to peers were dropped, since the socket stayed full for 15 s, or refused them."""
-        return self._client.unsent
-
-    @property
-    def counters(self) -> Counters:
-        """What was sent and has come since the client was made, as it is now: a copy."""
-        return self._client.counters
+    address = Forwarded[Address]("_client", "The relayed address, also after the end. `Ended` where there never was one.")
+    addresses = Forwarded[List[Address]]("_client", "All relayed addresses, as `yarrowdoor.TurnClient.addresses`.")
+    mapped_address = Forwarded[Optional[Address]](
+        "_client", "This client's own address as the server saw it at the beginning, or None where it did not say it.")
+    local_address = Forwarded[SocketAddress]("_client", "The address of the socket to the server. `Ended`.")
+    dropped = Forwarded[int]("_client", "How many packets of peers were dropped, since `queue` of them were waiting.")
+    unsent = Forwarded[int](
+        "_client", "How many packets to peers were dropped, since the socket stayed full for 15 s, or refused them.")
+    counters = Forwarded[Counters]("_client", "What was sent and has come since the client was made, as it is now: a copy.")
+    on_lost = Settable[Optional[Callable[[Lost], None]]](
+        "_client", "Called with each permission and channel that is lost, if it is set.")
+    on_error = Settable[Optional[Callable[[Exception], None]]](
+        "_client", "Called with each error of the socket over UDP that does not end it, if it is set.")
+    on_pause = Settable[Optional[Callable[[bool], None]]](
+        "_client", "Called with True when the connection is full, and with False when it is no longer, if it is set. `sendto` "
+        "waits meanwhile.")
 
     @property
     def lost(self) -> Deque[Lost]:
         """What peers have lost, the last 1,024 of it, as it is now: a copy."""
         return collections.deque(self._client.lost)
-
-    @property
-    def on_lost(self) -> Optional[Callable[[Lost], None]]:
-        """Called with each permission and channel that is lost, if it is set."""
-        return self._client.on_lost
-
-    @on_lost.setter
-    def on_lost(self, told: Optional[Callable[[Lost], None]]) -> None:
-        self._client.on_lost = told
-
-    @property
-    def on_error(self) -> Optional[Callable[[Exception], None]]:
-        """Called with each error of the socket over UDP that does not end it, if it is set."""
-        return self._client.on_error
-
-    @on_error.setter
-    def on_error(self, told: Optional[Callable[[Exception], None]]) -> None:
-        self._client.on_error = told
-
-    @property
-    def on_pause(self) -> Optional[Callable[[bool], None]]:
-        """Called with True when the connection is full, and with False when it is no longer, if it is set. `sendto` waits
-        meanwhile."""
-        return self._client.on_pause
-
-    @on_pause.setter
-    def on_pause(self, told: Optional[Callable[[bool], None]]) -> None:
-        self._client.on_pause = told
 
     # Requests
 

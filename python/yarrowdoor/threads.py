@@ -13,13 +13,13 @@ from typing import Any, Callable, Deque, Dict, List, Optional, Tuple
 from .address import Address, AddressLike, checked_peer
 from .client import Buffer
 from .counters import Counters
-from .errors import Ended, Refused
+from .errors import Ended
 from .inbox import Inbox, Receiver
 from .lifetime import Connecting
 from .link import DatagramLink, Link
 from .loop_thread import LoopThread, NotAnswered
 from .session import Session
-from .turn import MAX_MESSAGE, TurnClient, size_of
+from .turn import TurnClient, size_of
 from .wire import writable
 
 __all__ = ["ThreadClient", "ThreadInbox"]
@@ -177,7 +177,7 @@ class ThreadClient(TurnClient):
         session = self._phase
         if not isinstance(session, Session) or session.over.done() or self.thread.is_forked:
             raise self.ending()
-        packet = self._packet(session, data, peer)
+        packet = self._packet(session, self._shared(session), data, peer)
         link = session.link
         is_sent = self._send_datagram(session, link, packet) if isinstance(link, DatagramLink) else self._send_message(link, packet)
         if not is_sent:
@@ -189,24 +189,15 @@ class ThreadClient(TurnClient):
             idle, where = session.idle, checked_peer(peer)
             self.thread.post(lambda: idle.use(where))
 
-    def _packet(self, session: Session, data: Buffer, peer: AddressLike) -> bytes:
-        if self._relay == "tcp":
-            raise ValueError("relay='tcp' has streams: use connect, or accept")
+    def _shared(self, session: Session) -> Callable[[AddressLike, Buffer, int], bytes]:
+        """What makes messages of the session's client in any thread."""
         sender = self._sender
         if sender is None or sender[0] is not session:
             try:
                 sender = self._sender = session, session.client.shared()
             except ValueError:  # It was closed since its phase was read.
                 raise self.ending() from None
-        try:
-            packet = sender[1](peer, data, self._clock.now())
-        except Refused:
-            session.usable_client()
-            self._check_family(peer[0])
-            raise
-        if len(packet) > MAX_MESSAGE:
-            raise ValueError(f"the message to {peer} has {len(packet)} bytes with its header, and at most {MAX_MESSAGE} fit")
-        return packet
+        return sender[1]
 
     def _send_datagram(self, session: Session, link: DatagramLink, packet: bytes) -> bool:
         deadline = 0.0

@@ -4,7 +4,7 @@ from __future__ import annotations
 import asyncio
 import logging
 import ssl as tls
-from typing import Callable, List, Optional, Tuple, Type
+from typing import Any, Callable, List, Optional, Tuple, Type
 
 from .asked import About
 from .backoff import Backoff
@@ -46,8 +46,20 @@ MISMATCH = 437
 OUR_OWN: Tuple[Type[Exception], ...] = (ValueError, TypeError, LibraryError)
 
 
+# Another value after each sign of a server.
+Signs = Tuple[int, Tuple[int, int]]
+
+
 class Watched(TurnClient):
     """A client of a relay that comes back."""
+
+    def __init__(self, *args: Any, **settings: Any) -> None:
+        super().__init__(*args, **settings)
+        self._sessions: List[Session] = []
+
+    def _session_over(self, link: Link) -> Session:
+        self._sessions.append(super()._session_over(link))
+        return self._sessions[-1]
 
     def kept(self) -> List[About]:
         """Whose permissions and channels are renewed."""
@@ -82,9 +94,9 @@ class Watched(TurnClient):
         return self._session().count
 
     @property
-    def signs(self) -> int:
-        """How often a server has shown that it is there, while the client is opened."""
-        return self._signs
+    def signs(self) -> Signs:
+        """What shows that a server is there, while the client is opened: what has come, and the signs of connections."""
+        return sum(it.count for it in self._sessions), self._server.signs
 
     def watch(self, watcher: Optional[Watcher]) -> None:
         """Has each answer of the server told."""
@@ -114,14 +126,12 @@ class Failures:
 
     def is_final(self, error: Exception) -> bool:
         """Takes one more failure, and says whether no other try is made."""
-        if isinstance(error, WrongCredentials):
-            self._wrong += 1
-            return self._wrong >= MAX_WRONG
+        self._wrong = self._wrong + 1 if isinstance(error, WrongCredentials) else 0
         code = error.code if isinstance(error, AllocationFailed) else None
         self.leaves(None)
         # While the server may keep an allocation of this relay, that one may be what is one too many.
         self._quota = self._quota + 1 if code == QUOTA and not self._leases else 0
-        return code in FINAL or self._quota >= MAX_QUOTA or isinstance(error, OUR_OWN)
+        return self._wrong >= MAX_WRONG or code in FINAL or self._quota >= MAX_QUOTA or isinstance(error, OUR_OWN)
 
 
 class Tries:
@@ -173,8 +183,8 @@ class Tries:
 
     async def _opened(self, client: Watched, opening: asyncio.Future[None]) -> None:
         """Waits while the server shows within `TRY` seconds each that it is there."""
-        loop, seen = asyncio.get_running_loop(), -1
-        began = loop.time()
+        loop = asyncio.get_running_loop()
+        began, seen = loop.time(), None  # type: float, Optional[Signs]
         while not opening.done():
             if client.signs == seen:
                 raise AllocationFailed(f"no relayed address from {client.uri} in {loop.time() - began:.1f} s")

@@ -4,18 +4,20 @@ from __future__ import annotations
 import asyncio
 import socket
 import ssl as tls
-from typing import AsyncIterator, List, Optional, Tuple, Union
+from typing import Callable, List, Optional, Tuple, Union
 
 from .address import Address, AddressLike, SocketAddress, checked_ip, checked_peer
 from .client import Buffer, Client, Times
 from .clock import Clock
 from .credentials import Credentials, CredentialsLike, Text, ask, one_source
 from .errors import Refused
+from .guesses import explained
 from .inbox import Inbox, Receiver
 from .lifetime import Lifetime
 from .link import Link
 from .notices import Lost, Notices, Told
 from .path import Check
+from .room import Room
 from .servers import Server
 from .session import Session
 from .settings import check_seconds, check_times, checked_families
@@ -85,6 +87,7 @@ class TurnClient(Told, Lifetime):
     user, and for a user or password that is too long, opening it does.
     """
 
+    @explained
     def __init__(self, uri: Union[str, TurnUri], user: Optional[Text] = None, password: Optional[Text] = None, *,
                  credentials: Optional[CredentialsLike] = None, relay: str = "udp", family: Union[int, Tuple[int, int]] = 4,
                  ssl: Optional[tls.SSLContext] = None, times: Optional[Times] = None, queue: int = 1024,
@@ -132,6 +135,8 @@ class TurnClient(Told, Lifetime):
             raise
         session = Session(client, link, self._server, self._relay, self._max_stale_nonces, self._clock, self._inbox, self._notices,
                           self._families, self._idle, self._close_timeout)
+        room = Room(str(self.uri), session.alarm, session.counters, self._pause, self._refresh_ahead)
+        session.grants.counted = room.counted
         if self._probe is not None:
             session.path.probe(self._probe)
         return session
@@ -247,23 +252,28 @@ class TurnClient(Told, Lifetime):
         session = self._phase
         if not isinstance(session, Session) or session.over.done():
             raise self._ending()
-        if self._relay == "tcp":
-            raise ValueError("relay='tcp' has streams: use connect, or accept")
-        try:
-            packet = session.client.data_to(peer, data, self._clock.now())
-        except Refused:
-            session.usable_client()
-            self._check_family(peer[0])
-            raise
-        if len(packet) > MAX_MESSAGE:
-            raise ValueError(f"the message to {peer} has {len(packet)} bytes with its header, and at most {MAX_MESSAGE} fit")
-        if not session.link.send_data(packet):
+        if not session.link.send_data(self._packet(session, session.client.data_to, data, peer)):
             self._notices.unsent += 1
             return
         session.counters.packets_out += 1
         session.counters.bytes_out += size_of(data)
         if session.idle is not None:
             session.idle.use(checked_peer(peer))
+
+    def _packet(self, session: Session, data_to: Callable[[AddressLike, Buffer, int], bytes], data: Buffer,
+                peer: AddressLike) -> bytes:
+        """The message that carries data to a peer, as `data_to` of the client makes it."""
+        if self._relay == "tcp":
+            raise ValueError("relay='tcp' has streams: use connect, or accept")
+        try:
+            packet = data_to(peer, data, self._clock.now())
+        except Refused:
+            session.usable_client()
+            self._check_family(peer[0])
+            raise
+        if len(packet) > MAX_MESSAGE:
+            raise ValueError(f"the message to {peer} has {len(packet)} bytes with its header, and at most {MAX_MESSAGE} fit")
+        return packet
 
     def _check_family(self, ip: str) -> None:
         """Refuses a peer that the relayed address cannot reach."""
@@ -293,31 +303,3 @@ class TurnClient(Told, Lifetime):
     def _check_streams(self, call: str) -> None:
         if self._relay != "tcp":
             raise ValueError(f"{call} needs relay='tcp'")
-
-    # Data of peers
-
-    def __aiter__(self) -> AsyncIterator[Tuple[bytes, Address]]:
-        return self
-
-    async def __anext__(self) -> Tuple[bytes, Address]:
-        """The next data of a peer. It ends when the client is closed; `Ended` where it ended by itself, or was not opened;
-        `RuntimeError` with `receiver=`, which takes all."""
-        found = self._inbox.pop() or await self._take()
-        if found is None:
-            if self._has_failed():
-                raise self._ending()
-            raise StopAsyncIteration
-        return found
-
-    async def receive(self) -> Tuple[bytes, Address]:
-        """The next data of a peer, and the peer. `Ended` where the client has ended, or was not opened; `RuntimeError` with
-        `receiver=`, which takes all."""
-        found = self._inbox.pop() or await self._take()
-        if found is None:
-            raise self._ending()
-        return found
-
-    async def _take(self) -> Optional[Tuple[bytes, Address]]:
-        if self._inbox.has_receiver:
-            raise RuntimeError("the receiver of this client takes all data: there is none to wait for")
-        return None if self._is_not_opened() else await self._inbox.take()

@@ -56,10 +56,6 @@ class Wire:
         self.is_stream = sock.type == socket.SOCK_STREAM
         self.local: SocketAddress = of_socket(sock.getsockname())
         self.remote: SocketAddress = of_socket(sock.getpeername())
-        self.unsent = 0
-        """how many datagrams were dropped, since the socket was full"""
-        self.patience = _FULL if self.is_stream else 0.0
-        """how long a socket that is full is waited for, in seconds"""
         if self.is_stream:
             notice_silence(sock)
             tap.opened(self.local, self.remote, time.time())
@@ -82,21 +78,19 @@ class Wire:
         return self._socket.getpeercert() if isinstance(self._socket, tls.SSLSocket) else None
 
     def send(self, data: bytes) -> None:
-        """Sends a datagram, or drops it where the socket stays full; of a stream it sends all, or raises `TimeoutError`."""
+        """Sends a datagram, or drops it where the socket is full; of a stream it sends all, or raises `TimeoutError`."""
         if self.is_stream:
             self._tap.piece(self.local, self.remote, data, time.time())
-        deadline, rest = time.monotonic() + self.patience, memoryview(data)
+        deadline, rest = time.monotonic() + _FULL, memoryview(data)
         while rest:
             try:
                 rest = rest[self._socket.send(rest):]
             except (BlockingIOError, tls.SSLWantWriteError, tls.SSLWantReadError):
-                if time.monotonic() < deadline:
-                    writable(self._socket, 0.05)
-                elif self.is_stream:
-                    raise TimeoutError("the server reads nothing of the connection any more") from None
-                else:
-                    self.unsent += 1
+                if not self.is_stream:
                     return
+                if time.monotonic() >= deadline:
+                    raise TimeoutError("the server reads nothing of the connection any more") from None
+                writable(self._socket, 0.05)
         if not self.is_stream:
             self._tap.datagram(self.local, self.remote, data, time.time())
 

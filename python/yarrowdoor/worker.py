@@ -5,7 +5,6 @@ import contextlib
 import errno
 import math
 import socket
-import threading
 import time
 from typing import Any, Callable, Dict, Optional, Set
 
@@ -15,28 +14,30 @@ from .answers import (
     AllocateTcpSocket, AllocationCreated, AllocationCreateFailed, ChannelCreated, ChannelCreateFailed, Event, Ignored, PeerData,
     PermissionCreated, PermissionCreateFailed, TcpClose, WaitUntil,
 )
-from .asked import About, Record
-from .client import Client
+from .asked import About, Record, key_of
+from .client import Buffer, Client
 from .clock import Clock
 from .credentials import Text
 from .diagnosis import ALLOCATE, Diagnosis
-from .errors import Refused
+from .errors import Ended, Refused, because
 from .wire import Wire
 
 __all__ = ["Worker"]
 
 # What one look at a socket takes of it, so that no sender keeps this program from all else.
 MAX_TAKEN = 64
-# How long a signed answer may still come after an error that nobody has signed, in seconds.
-GRACE = 1.0
+# How long the answer to a delete is waited for, in seconds.
+DELETE_WAIT = 2.0
+# A datagram over IPv4 carries so many bytes, and coturn reads no longer message of a stream.
+MAX_MESSAGE = 65_507
 
 
 class Worker:
-    """A client and its wire. One thread has it work, by `drive`; others may use it under `change`."""
+    """A client and its wire. `drive` has it work, in the thread that uses it."""
 
     def __init__(self, wire: Wire, server: str, user: Text, password: Text, **settings: Any) -> None:
         """Settings are those of `client.Client`. The wire is closed where there is no such client. `woken` is a socket that is to
-        be read by `wakes`: who calls something by which more is due wakes the thread that has it work."""
+        be read by `wakes`."""
         usual = {"keepalive": 15 * 10**9, "pause": 5 * 10**6, "refresh_ahead": 150 * 10**9, "max_stale_nonces": 256}
         named: Dict[str, Any] = {**usual, **settings}
         try:
@@ -47,8 +48,6 @@ class Worker:
             raise
         self.wire, self.clock, self.record = wire, Clock(), Record()
         self.diagnosis = Diagnosis(server, named["max_stale_nonces"], self.clock, self.record)
-        self.change = threading.Condition()
-        """the lock of all that follows, which tells each change"""
         self.woken.setblocking(False)
         self._waker.setblocking(False)
         self.wakeup, self.leave_by = 0.0, math.inf
@@ -77,12 +76,10 @@ class Worker:
 
     def work(self) -> None:
         """Does all that is due now."""
-        with self.change:
-            while not self.is_over and self._step():
-                pass
-            if time.monotonic() >= self.leave_by:
-                self.end()
-            self.change.notify_all()
+        while not self.is_over and self._step():
+            pass
+        if time.monotonic() >= self.leave_by:
+            self.end()
 
     def _step(self) -> bool:
         """Does something that is due, and says whether there may be more."""
@@ -124,7 +121,11 @@ class Worker:
         if not self.is_over:
             self.is_over = True
             self.why = self.diagnosis.ended() if self.address is not None else self.diagnosis.no_address()
-            self.change.notify_all()
+
+    def wake(self) -> None:
+        """Has `drive` look again at what it waits for, from any thread."""
+        with contextlib.suppress(OSError):  # It is awake already, or has ended.
+            self._waker.send(b"x")
 
     def wakes(self) -> None:
         """Takes what has woken it."""
@@ -133,16 +134,13 @@ class Worker:
 
     def has_more(self) -> bool:
         """Whether TLS holds bytes of which `select` does not know."""
-        with self.change:
-            return not self.is_over and self.wire.has_more()
+        return not self.is_over and self.wire.has_more()
 
     def take(self) -> None:
         """Takes what has come, some of it at a time, so that a flood keeps nobody out."""
-        with self.change:
-            for _ in range(MAX_TAKEN):
-                if self.is_over or not self._take_next():
-                    break
-            self.change.notify_all()
+        for _ in range(MAX_TAKEN):
+            if self.is_over or not self._take_next():
+                return
 
     def _take_next(self) -> bool:
         """Takes what one read gives, and says whether there may be more."""
@@ -204,19 +202,63 @@ class Worker:
         (self.granted if is_granted else self.failed).add(about)
         (self.failed if is_granted else self.granted).discard(about)
 
-    def wake(self) -> None:
-        """Has `drive` look at the client again."""
-        with contextlib.suppress(OSError):  # It is awake already, or has ended.
-            self._waker.send(b"x")
+    # What its user calls
+
+    def ask(self, about: About) -> None:
+        """Asks for the permission of an IP address, or the channel of a peer, unless it is there or asked for. `Ended`; `Refused`
+        as the client does it."""
+        self._check()
+        if about in self.asked or about in self.granted:
+            return
+        self.failed.discard(about)
+        self.record.forget(key_of(about))
+        if self._request(about):
+            self.asked.add(about)
+
+    def _request(self, about: About) -> bool:
+        """Makes a request, and says whether it is to be waited for."""
+        if not isinstance(about, str):
+            self.client.bind_channel(about, self.clock.now())
+            return True
+        try:
+            self.client.create_permission(about, self.clock.now())
+        except Refused as refusal:
+            if refusal.reason != "already-exists":
+                raise
+            if self.client.have_permission(about):
+                self.granted.add(about)
+        return about not in self.granted
+
+    def send(self, data: Buffer, peer: Address) -> None:
+        """Sends data to a peer. `Ended`; `Refused` without a permission; `ValueError` for data that is too long for a message."""
+        self._check()
+        packet = self.client.data_to(peer, data, self.clock.now())
+        if len(packet) > MAX_MESSAGE:
+            raise ValueError(f"the message to {peer} has {len(packet)} bytes with its header, and at most {MAX_MESSAGE} fit")
+        self._write(packet)
+
+    def leave(self) -> None:
+        """Has the relayed address given back, also one that the server is yet to grant, and all ended in two seconds."""
+        self.leave_by, self.is_leaving = min(self.leave_by, time.monotonic() + DELETE_WAIT), True
 
     def close(self) -> None:
         """Closes the socket, and frees the client."""
-        with self.change:
-            self.end()
-            self.wire.close()
-            self.client.close()
-            self.woken.close()
-            self._waker.close()
+        self.end()
+        self.wire.close()
+        self.client.close()
+        self.woken.close()
+        self._waker.close()
+
+    def _check(self) -> None:
+        """`Ended` where no call is made any more."""
+        if self.is_leaving or self.is_over:
+            raise self.ending()
+
+    def ending(self) -> Ended:
+        """Why no call is made any more, as a new error for each."""
+        if self.is_leaving or self.why is None:
+            return Ended("the client was closed")
+        return because(Ended(*self.why.args), self.why.__cause__)
 
     # What happens, for those who are more than this
 
@@ -232,7 +274,6 @@ class Worker:
             self.error = None
             if message.method == reasons.ALLOCATE:
                 self.mapped = self.mapped if message.mapped is None or is_ignored else message.mapped
-                self.judged = time.monotonic() + GRACE if message.error is not None and is_ignored else self.judged
 
     def refused(self, error: OSError) -> None:
         """The socket has an error, which ends a stream."""

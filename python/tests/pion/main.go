@@ -1,4 +1,8 @@
-// A TURN server of pion for the tests: `pion PORT`, on 127.0.0.1 over UDP and TCP, for the user `user` with the password `pass`.
+// A TURN server of pion for the tests, over UDP and TCP, for the user `user` with the password `pass`:
+//
+//	pion PORT [ADDRESS [RELAY [deny]]]
+//
+// on 127.0.0.1, or at an address of this host, that relays there, or at another one; with `deny` it permits no peer.
 package main
 
 import (
@@ -11,7 +15,8 @@ import (
 )
 
 func main() {
-	address := "127.0.0.1:" + os.Args[1]
+	host := argument(2, "127.0.0.1")
+	address := net.JoinHostPort(host, os.Args[1])
 	datagrams, err := net.ListenPacket("udp4", address)
 	if err != nil {
 		log.Fatal(err)
@@ -20,19 +25,29 @@ func main() {
 	if err != nil {
 		log.Fatal(err)
 	}
-	relay := &turn.RelayAddressGeneratorStatic{RelayAddress: net.ParseIP("127.0.0.1"), Address: "127.0.0.1"}
+	ip := argument(3, host)
+	relay := &turn.RelayAddressGeneratorStatic{RelayAddress: net.ParseIP(ip), Address: ip}
+	permit := func(net.Addr, net.IP) bool { return argument(4, "") != "deny" }
 	key := turn.GenerateAuthKey("user", "realm", "pass")
 	_, err = turn.NewServer(turn.ServerConfig{
 		Realm: "realm",
 		AuthHandler: func(user string, realm string, source net.Addr) ([]byte, bool) {
 			return key, user == "user"
 		},
-		PacketConnConfigs: []turn.PacketConnConfig{{PacketConn: datagrams, RelayAddressGenerator: relay}},
-		ListenerConfigs:   []turn.ListenerConfig{{Listener: streams, RelayAddressGenerator: relay}},
+		PacketConnConfigs: []turn.PacketConnConfig{{PacketConn: datagrams, RelayAddressGenerator: relay, PermissionHandler: permit}},
+		ListenerConfigs:   []turn.ListenerConfig{{Listener: streams, RelayAddressGenerator: relay, PermissionHandler: permit}},
 	})
 	if err != nil {
 		log.Fatal(err)
 	}
 	fmt.Println("ready")
 	select {}
+}
+
+// An argument of this program, or what stands for it.
+func argument(number int, otherwise string) string {
+	if len(os.Args) > number {
+		return os.Args[number]
+	}
+	return otherwise
 }

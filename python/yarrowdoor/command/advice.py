@@ -9,10 +9,14 @@ from .credentials import Credentials, rest_expiry
 from .exchange import Said
 
 __all__ = [
-    "QUOTAS", "about_address", "about_credentials", "about_family", "about_mapped", "about_peer", "about_quota", "about_refusal",
-    "about_silence", "about_streams", "same_network",
+    "QUOTAS", "TAKEN", "about_address", "about_credentials", "about_family", "about_mapped", "about_outside_peer", "about_peer",
+    "about_quota", "about_refusal", "about_silence", "about_streams", "same_network",
 ]
 
+# The error of a peer that the server does not permit (RFC 8656, section 19).
+_FORBIDDEN = 403
+# The errors of a local port of which the server still has something, as it may after a client that had the same one.
+TAKEN = (437, 441)
 # The errors of a limit: of a user, and of the server.
 QUOTAS = (486, 508)
 # A server whose nonces are good for a second says 438 about once in that time.
@@ -147,6 +151,11 @@ def about_peer(ip: str, said: Optional[Said]) -> str:
     if said is None:
         return f"The server has answered nothing to the permission for {ip}."
     told = _told(said) if said.code else "(an error without a code)"
+    if not said.code:
+        return (f"The server refuses {ip}, which is its own relayed address, as a peer {told}: pion answers so where its "
+                "PermissionHandler denies a peer. Let it permit that one, or relay at another address.")
+    if said.code != _FORBIDDEN:
+        return f"The server takes no permission for {ip} {told}, for another reason than that it forbids this peer: see its log."
     where = ipaddress.ip_address(ip)
     if where.is_loopback:
         return (f"The server refuses {ip} as a peer {told}: it forbids loopback addresses, as it should where others use it. So "
@@ -157,6 +166,14 @@ def about_peer(ip: str, said: Optional[Said]) -> str:
                 f"Permit that one (coturn: allowed-peer-ip={ip}), or let it relay at a public address (external-ip=).")
     return (f"The server refuses {ip}, which is its own relayed address, as a peer {told}, so that two of its clients are not "
             f"joined: permit it (coturn: allowed-peer-ip={ip}, or remove the denied-peer-ip= that has it).")
+
+
+def about_outside_peer(ip: str, said: Optional[Said]) -> str:
+    """Why the server lets the address of a peer outside not send."""
+    if said is None:
+        return f"The server has answered nothing to the permission for {ip}."
+    return (f"The server refuses {ip} as a peer {_told(said)}: permit it (coturn: allowed-peer-ip={ip}, or remove the "
+            "denied-peer-ip= that has it), or name a peer elsewhere.")
 
 
 def about_streams(said: Optional[Said]) -> str:

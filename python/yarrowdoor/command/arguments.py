@@ -12,8 +12,8 @@ __all__ = ["parser"]
 
 _ABOUT = "What a TURN server does, what is wrong with it, and packets through it."
 _STATUS = "exit status: 0 all is well, 1 something fails, 2 it cannot be tried"
-_SECRETS = (f"Password: {PASSWORD} in the environment, --password-file, or asked. Shared secret (coturn: use-auth-secret): "
-            f"{SECRET}, --secret-file or --ask-secret. User: --user or {USER}.")
+_SECRETS = (f"Password: {PASSWORD}, --password-file, or asked. Shared secret: {SECRET}, --secret-file or --ask-secret. User: "
+            f"--user or {USER}.")
 
 
 class _Parser(argparse.ArgumentParser):
@@ -46,6 +46,12 @@ def parser() -> argparse.ArgumentParser:
     _relay(add("relay", "a local UDP port that sends from the relayed address",
                "Packets to a local UDP port leave from the relayed address to a peer. What the peer sends goes to the program that "
                "has sent last."))
+    _probe(add("probe", "check again and again, as metrics for Prometheus",
+               "Checks each so many seconds, and serves what was found as metrics for Prometheus. A line is "
+               "printed where other steps fail than before."))
+    _load(add("load", "many relayed addresses at one time, and packets through them",
+              "Asks for relayed addresses until one is refused, sends packets between each two of them, "
+              "holds them, and gives all back."))
     _bench(add("bench", "packets a second, loss, and processor time",
                "Sends as many packets as come back, by a relayed address to a peer that sends them back, or to a second relayed "
                "address, and tells how many a second that are."))
@@ -55,8 +61,35 @@ def parser() -> argparse.ArgumentParser:
 def _check(command: argparse.ArgumentParser) -> None:
     command.add_argument("--nonce", type=_seconds, default=0.0, metavar="S", help="also watch for S seconds how old a nonce gets")
     command.add_argument("--quota", type=_count, default=0, metavar="N", help="also ask for N relayed addresses at one time")
+    _steps(command)
+
+
+def _probe(command: argparse.ArgumentParser) -> None:
+    command.add_argument("--every", type=_positive, default=30.0, metavar="S", help="seconds from check to check (30)")
+    command.add_argument("--listen", type=_address, default=Address("127.0.0.1", 9643), metavar="IP:PORT",
+                         help="where the metrics are, at /metrics (127.0.0.1:9643)")
+    command.add_argument("--once", action="store_true", help="check once, print the metrics, and end")
+    _steps(command)
+
+
+def _load(command: argparse.ArgumentParser) -> None:
+    command.add_argument("--allocations", type=_count, default=10, metavar="N", help="relayed addresses at one time (10)")
+    command.add_argument("--rate", type=_positive, default=10.0, metavar="N", help="further ones a second (10)")
+    command.add_argument("--packets", type=_packets, default=10, metavar="N", help="sent through each two of them (10)")
+    command.add_argument("--hold", type=_seconds, default=5.0, metavar="S", help="seconds that all are held, and packets sent (5)")
+    _traffic(command)
+    _max_loss(command)
+
+
+def _steps(command: argparse.ArgumentParser) -> None:
+    """What steps a check has besides the usual ones."""
     command.add_argument("--peer", type=_address, metavar="IP:PORT", help="a peer that sends back what it is sent (this host)")
     command.add_argument("--security", action="store_true", help="also try which networks clients may send to")
+    command.add_argument("--all", action="store_true", help="also try each transport at each address")
+    _max_loss(command)
+
+
+def _max_loss(command: argparse.ArgumentParser) -> None:
     command.add_argument("--max-loss", type=_percent, default=1.0, metavar="P",
                          help="percent of packets lost at each crossing that pass (1)")
 
@@ -128,6 +161,13 @@ def _seconds(text: str) -> float:
     return found
 
 
+def _positive(text: str) -> float:
+    found = _seconds(text)
+    if found < 0.001:
+        raise argparse.ArgumentTypeError(f"{text!r} is not a number from 0.001 to 86400")
+    return found
+
+
 def _percent(text: str) -> float:
     found = _seconds(text)
     if found > 100:
@@ -139,6 +179,10 @@ def _count(text: str) -> int:
     if not text.isdecimal() or not 1 <= int(text) <= 100_000:
         raise argparse.ArgumentTypeError(f"{text!r} is not a number from 1 to 100000")
     return int(text)
+
+
+def _packets(text: str) -> int:
+    return 0 if text == "0" else _count(text)
 
 
 def _size(text: str) -> int:

@@ -10,7 +10,7 @@ from ..address import Address
 from ..driver import drive
 from .driver import leave_all
 from .exchange import Exchange
-from .output import Bar
+from .output import JSON_VERSION, Bar
 from .pair import Server, find_way, join
 from .traffic import Trip
 
@@ -47,8 +47,9 @@ def bench(server: Server, peer: Optional[Address], seconds: float, size: int, ra
         if not is_json:
             print(f"from {opened[0].address} to {trip.peer}, {seconds:g} s, packets of {size} bytes", file=out, flush=True)
         load = _run(trip, seconds, size, rate, Bar(errors, not is_json, "bench", int(seconds)))
-        facts = {"sent": load.sent, "received": load.received, "seconds": load.seconds, "processor_seconds": load.processor}
-        print(json.dumps({"peer": str(trip.peer), **facts}) if is_json else str(load), file=out)
+        facts = {"version": JSON_VERSION, "peer": str(trip.peer), "sent": load.sent, "received": load.received,
+                 "seconds": load.seconds, "processor_seconds": load.processor}
+        print(json.dumps(facts) if is_json else str(load), file=out)
         return 0 if load.received else 1
     finally:
         leave_all(opened)

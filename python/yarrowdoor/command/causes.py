@@ -6,7 +6,7 @@ from typing import Dict, List, Optional
 
 from .certificate import explain
 from .handshakes import explain_alert
-from .reach import Door, Heard, Verdict, Way
+from .reach import NOT_OF_SERVER, Door, Heard, Verdict, Way
 
 __all__ = ["about_closed", "about_other", "about_unwanted", "shown"]
 
@@ -26,7 +26,7 @@ def shown(heard: Heard, name: str) -> str:
 
 def about_other(heard: Heard) -> str:
     """What it means that one of several addresses does not answer."""
-    if heard.verdict is Verdict.UNREACHABLE:
+    if heard.verdict in NOT_OF_SERVER:
         return f"There is no way from here to {heard.host} ({heard.error}), so that it was not tried."
     return (f"{heard.host} does not answer ({shown(heard, '')}): clients that try it first lose time, or fail. Start the server "
             "there, or take that address out of the name.")
@@ -65,6 +65,9 @@ def about_closed(door: Door, heard: Heard, ways: Dict[str, Optional[Way]], all_h
                 "NAT.")
     if heard.verdict is Verdict.UNREACHABLE:
         return f"There is no way from here to {heard.host} ({heard.error}): look at this host's network first."
+    if heard.verdict is Verdict.FORBIDDEN_HERE:
+        return (f"A firewall of this host itself rejects what is sent to {where} over {layer}: let it out (`nft list ruleset`, "
+                f"`iptables -L OUTPUT`). That says nothing of the server.{_instead(door, ways)}")
     if heard.verdict is Verdict.REFUSED:
         return _about_refused(door, where, layer, ways)
     if heard.verdict is Verdict.SILENT:
@@ -81,9 +84,10 @@ def _about_rejected(door: Door, heard: Heard, layer: str) -> str:
     if found is not None and found.has_no_route:
         return (f"{who} has no way to {heard.host} (ICMP: network unreachable): is the address right, and its network up? If other "
                 "hosts are not reached either, it is this host's network.")
-    return (f"{who} rejects {port} by ICMP (\"prohibited\" or \"unreachable\"). Often that is the server's firewall (firewalld: "
-            f"`firewall-cmd --add-port={door.port}/{layer.lower()}`). If other hosts are not reached either, it is this host's "
-            f"network.")
+    mend = (f"Often that is the server's firewall (firewalld: `firewall-cmd --add-port={door.port}/{layer.lower()}`)."
+            if found is None or found.sender == heard.host.partition("%")[0] else f"That is a firewall: open {port} there.")
+    return (f"{who} rejects {port} by ICMP (\"prohibited\" or \"unreachable\"). {mend} If other hosts are not reached either, it "
+            "is this host's network.")
 
 
 def _about_refused(door: Door, where: str, layer: str, ways: Dict[str, Optional[Way]]) -> str:
@@ -121,6 +125,9 @@ def _about_no_answer(door: Door, heard: Heard, where: str) -> str:
     """A connection was accepted, and nothing of use came."""
     if heard.other == "tls":
         return f"{where} is a port of TLS: the URI is turns:{_host(door)}:{door.port}."
+    if heard.other == "hello":
+        return (f"{where} speaks TLS, and its certificate, which is long, does not arrive: what is long is lost on the way (a "
+                "small MTU). Raise it, or let routers answer with ICMP so that the server learns it.")
     if heard.other == "plain":
         return (f"{where} speaks plain TCP and no TLS: put the port of TLS into the URI (coturn: tls-listening-port=, 5349), let "
                 f"the "

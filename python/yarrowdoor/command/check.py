@@ -2,24 +2,32 @@
 from __future__ import annotations
 
 import contextlib
+import socket
 import ssl as tls
 from concurrent.futures import Future, ThreadPoolExecutor
 from dataclasses import dataclass, replace
-from typing import Generator, Iterator, List, Optional
+from typing import Generator, Iterator, List, Optional, Sequence
 
+from .. import reasons
 from ..address import Address
 from ..driver import drive
 from ..errors import Ended, Refused
 from ..uri import TurnUri
 from ..wire import Tap
 from . import advice
+from .ahead import Ahead
 from .credentials import Credentials
 from .doors import Doors, find_addresses
 from .driver import leave_all, open_exchange
 from .exchange import Exchange
-from .extras import balancer_step, flows_step, limit_step, nonce_step, quota_step, server_step, streams_step
+from .extras import (
+    balancer_step, blamed_on_balancer, flows_step, limit_step, nonce_step, quota_step, server_step, streams_step,
+)
 from .joining import Joining, Limits
+from .files import more_files
+from .matrix import matrix_steps
 from .output import Output
+from .outside import hosts_outside
 from .reach import Way
 from .relays import NO_SUCH_FAMILY, allocate, allocation_step, challenge_step, family_step
 from .security import security_steps
@@ -28,6 +36,8 @@ from .steps import Facts, Outcome, Step
 __all__ = ["Plan", "check"]
 
 _CLOSED = "The server answered before, and takes no further connection: see its log, and its limits of connections."
+_SLOW = ("The server answered before, and a further connection was not made in time: packets are lost on the way, or the server "
+         "accepts no more of them.")
 _GONE = "The server answered before, and went in the middle of this check: it has ended or was started again, see its log."
 
 
@@ -52,6 +62,8 @@ class Plan:
     """whether it is tried which networks clients reach through the server"""
     max_loss: float = 1.0
     """of how many packets of a hundred it is too many to be lost at each crossing between here and the server"""
+    is_all: bool = False
+    """whether all transports of all addresses are tried, with relayed addresses of both families"""
 
 
 def check(plan: Plan, output: Output, tap: Tap) -> None:
@@ -60,7 +72,7 @@ def check(plan: Plan, output: Output, tap: Tap) -> None:
     output.add(step)
     if not hosts:
         return
-    with Doors(plan.uri, hosts, plan.context, plan.seconds, tap) as doors:
+    with Doors(plan.uri, hosts, plan.context, plan.seconds, tap, plan.is_all) as doors:
         with contextlib.closing(_Relaying(plan, doors, output, tap).steps()) as steps:
             for step in steps:
                 output.add(step)
@@ -71,7 +83,7 @@ class _Relaying:
 
     def __init__(self, plan: Plan, doors: Doors, output: Output, tap: Tap) -> None:
         self._plan, self._doors, self._output, self._tap = plan, doors, output, tap
-        self._way = doors.way()
+        self._way: Optional[Way] = None
         self._seconds, self._family = plan.seconds, 4
         self._all: List[Exchange] = []
         self._beside: List[Exchange] = []
@@ -86,13 +98,15 @@ class _Relaying:
             for step in self._tried():
                 gone = self._why_gone()
                 # What a step found while the server went says nothing of its settings.
-                yield step if gone is None or step.outcome is Outcome.OK else replace(step, advice="")
+                shown = blamed_on_balancer(step, self._all)
+                yield shown if gone is None or step.outcome is Outcome.OK else replace(shown, advice="")
                 if gone is not None:
                     yield Step("connection", Outcome.FAILED, gone, 0.0, _GONE)
                     return
         except (Ended, OSError, Refused) as error:
             gone = str(error) if isinstance(error, ConnectionRefusedError) else self._why_gone()
-            yield Step("connection", Outcome.FAILED, gone or str(error), 0.0, _GONE if gone else _CLOSED)
+            advised = _GONE if gone else _SLOW if isinstance(error, (TimeoutError, socket.timeout)) else _CLOSED
+            yield Step("connection", Outcome.FAILED, gone or str(error), 0.0, advised)
         finally:
             self._pool.shutdown()
             with contextlib.suppress(OSError):
@@ -117,12 +131,13 @@ class _Relaying:
 
     def _tried(self) -> Iterator[Step]:
         """The doors, while two relayed addresses are asked for already, and what is granted."""
+        begun = self._begun_ahead()
         if self._way is None:
             yield from self._doors.steps()
             return
         failure: Optional[OSError] = None
         try:
-            first, second = self._open(), self._open()
+            first, second = begun or (self._open(), self._open())
             self._doors.knocking.when_heard(first.wake)
             self._begin(first, second)
         except OSError as error:
@@ -131,6 +146,20 @@ class _Relaying:
         if failure is not None:
             raise failure
         yield from self._granting(first, second)
+        if self._plan.is_all and self._plan.credentials is not None:
+            yield from matrix_steps(self._doors.all, self._doors.heard(), self._open_for, self._seconds)
+
+    def _begun_ahead(self) -> Sequence[Exchange]:
+        """Finds the way to the server: two exchanges that have gone it already, or none. What went another way is given back."""
+        ahead = Ahead(self._doors, self._open_at)
+        self._all = ahead.all  # What is interrupted is given back too.
+        ahead.work()
+        self._way = self._doors.way()
+        taken = ahead.taken(self._way)
+        if not taken:
+            leave_all(self._all)
+            self._all = []
+        return taken
 
     def _begin(self, first: Exchange, second: Exchange) -> None:
         """Has both work until all doors are judged, also at what can be asked for by then."""
@@ -139,6 +168,9 @@ class _Relaying:
         if first.address is not None and second.address is not None:
             first.ask(second.address.host)
             second.ask(first.address.host)
+            for host in hosts_outside(first, first.address) if self._plan.peer is None else ():
+                for it in both:
+                    it.ask(host)
         drive(both, is_done, self._seconds)
 
     def _granting(self, first: Exchange, second: Exchange) -> Iterator[Step]:
@@ -150,6 +182,8 @@ class _Relaying:
         if credentials is None:
             yield Step("allocation", Outcome.UNTRIED, "is not tried", 0.0, "There are no credentials: name a user by --user NAME.")
             return
+        first = self._settled(first, [second])
+        second = self._settled(second, [first]) if first.address is not None else second
         own = allocation_step(first, credentials, self._seconds, [second])
         if own.facts.get("code") in advice.QUOTAS and allocate(second, self._seconds, [first]):
             # The server has room for one, and the second was sooner.
@@ -163,6 +197,16 @@ class _Relaying:
         if first.address is not None:
             yield from self._mapped(first)
             yield from self._granted(first, first.address, second, own, credentials)
+
+    def _settled(self, exchange: Exchange, others: Sequence[Exchange]) -> Exchange:
+        """Waits for a relayed address, and asks once more from another local port where the server has something of this one."""
+        allocate(exchange, self._seconds, others)
+        said = exchange.error_of(reasons.ALLOCATE)
+        if said is None or said.code not in advice.TAKEN:
+            return exchange
+        fresh = self._open(family=exchange.family)
+        allocate(fresh, self._seconds, others)
+        return fresh
 
     def _mapped(self, first: Exchange) -> Iterator[Step]:
         """This host's address as the server sees it, where there is something to say of it."""
@@ -200,6 +244,12 @@ class _Relaying:
             yield from security_steps([first, six], self._seconds)
         yield from self._asked_for(first)
 
+    def _open_at(self, way: Way) -> Exchange:
+        return self._open_for(way, self._family)
+
+    def _open_for(self, way: Way, family: int) -> Exchange:
+        return open_exchange(way, self._plan.credentials, self._tap, self._seconds, "udp", family)
+
     def _begin_streams(self) -> None:
         """Connects over TCP or TLS, where the server is reached so, for a TCP allocation."""
         way = self._doors.stream_way()
@@ -236,7 +286,9 @@ class _Relaying:
             yield nonce_step(first, plan.nonce, self._output.bar("nonce", int(plan.nonce)))
         if plan.quota:
             held = sum(it.address is not None and not it.is_over for it in self._all)
-            yield quota_step(self._make_alone, plan.quota, held, self._seconds, self._output.bar("quota", plan.quota))
+            with more_files():
+                step = quota_step(self._make_alone, plan.quota, held, self._seconds, self._output.bar("quota", plan.quota))
+            yield step
 
     def _make_alone(self) -> Exchange:
         assert self._way is not None, "nothing is opened without a way"

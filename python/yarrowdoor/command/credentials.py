@@ -14,9 +14,9 @@ import re
 import sys
 import time
 from dataclasses import dataclass, field
-from typing import Optional
+from typing import Callable, Optional
 
-__all__ = ["Credentials", "NoCredentials", "rest_expiry", "resolve"]
+__all__ = ["Credentials", "NoCredentials", "rest_expiry", "resolve", "source"]
 
 USER, PASSWORD, SECRET = "YARROWDOOR_USER", "YARROWDOOR_PASSWORD", "YARROWDOOR_SECRET"
 # Credentials that are made here are good for so long, in seconds.
@@ -39,20 +39,29 @@ def resolve(user: Optional[str], password_file: Optional[str], secret_file: Opti
             asks_secret: bool = False) -> Optional[Credentials]:
     """The credentials that options and environment give, or None where they name no user and no secret. With `asks_secret` the
     secret is asked on the terminal. `NoCredentials` where something is missing, or a file cannot be read."""
+    return source(user, password_file, secret_file, asks_secret)()
+
+
+def source(user: Optional[str], password_file: Optional[str], secret_file: Optional[str],
+           asks_secret: bool = False) -> Callable[[], Optional[Credentials]]:
+    """The same for a program that lasts: reads and asks once, and gives credentials whenever it is called. Those of a shared
+    secret are good for an hour from then on."""
     user = user or os.environ.get(USER)
     secret = _read(secret_file) if secret_file else _ask("Shared secret: ", "secret") if asks_secret else os.environ.get(SECRET)
     if secret and not password_file:
-        return _of_secret(user or "yarrowdoor", secret)
+        named, known = user or "yarrowdoor", secret
+        return lambda: _of_secret(named, known)
     password = _read(password_file) if password_file else os.environ.get(PASSWORD)
     if password == "":
         raise NoCredentials(f"{PASSWORD} is set and empty, and no password is: was a secret not mounted, or a variable not set?")
     if user is None:
         if password is not None:
             raise NoCredentials(f"there is a password and no user: add --user NAME, or set {USER}")
-        return None
+        return lambda: None
     if password is None:
         password = _ask(f"Password of {user}: ", f"password for {user}")
-    return Credentials(user, password)
+    made = Credentials(user, password)
+    return lambda: made
 
 
 def rest_expiry(user: str) -> Optional[int]:

@@ -11,7 +11,7 @@ from ..uri import TurnUri
 from ..wire import Tap
 from . import causes
 from .knock import knock
-from .reach import Door, Heard, Knocking, Verdict, Way, lookup
+from .reach import NOT_OF_SERVER, Door, Heard, Knocking, Verdict, Way, lookup
 from .steps import Facts, Outcome, Step
 
 __all__ = ["Doors", "find_addresses", "try_doors"]
@@ -48,10 +48,13 @@ def find_addresses(uri: TurnUri, family: Optional[int], seconds: float) -> Tuple
 class Doors:
     """The doors of a server, asked at all its addresses at the same time. It ends with its `with`."""
 
-    def __init__(self, uri: TurnUri, hosts: List[str], context: Optional[tls.SSLContext], seconds: float, tap: Tap) -> None:
+    def __init__(self, uri: TurnUri, hosts: List[str], context: Optional[tls.SSLContext], seconds: float, tap: Tap,
+                 is_all: bool = False) -> None:
+        """With `is_all` those of all transports, also where the URI does not name them."""
         self.wanted = "tls" if uri.secure else uri.transport
-        self._doors = _doors(uri, context)
-        self.knocking = Knocking(self._doors, hosts, functools.partial(knock, seconds=seconds, tap=tap))
+        self.all = _all_doors(uri, context) if is_all else _doors(uri, context)
+        self._hosts = hosts
+        self.knocking = Knocking(self.all, hosts, functools.partial(knock, seconds=seconds, tap=tap))
 
     def __enter__(self) -> Doors:
         return self
@@ -65,6 +68,15 @@ class Doors:
         found = (self._first(it) for it in (self.wanted, *others))
         return next((it for it in found if it is not None), None)
 
+    def likely_way(self) -> Optional[Way]:
+        """The way of a URI of UDP, where the server answers at its first address; none of other URIs. It waits for nothing."""
+        door = next((it for it in self.all if it.transport == self.wanted == "udp"), None)
+        return Way(self._hosts[0], door) if door is not None else None
+
+    def is_way_known(self, seconds: float = 0.0) -> bool:
+        """Whether all was heard at the door of the URI, or is within so many seconds."""
+        return self.knocking.is_heard(self.wanted, seconds)
+
     def stream_way(self) -> Optional[Way]:
         """A way over TCP or TLS, if there is one."""
         names = (self.wanted, "tcp", "tls") if self.wanted != "udp" else ("tcp", "tls")
@@ -75,14 +87,18 @@ class Doors:
         heard = self.knocking.heard(way.door.transport)
         return [Way(it.host, way.door) for it in heard if it.verdict is Verdict.ANSWERS and it.host != way.host]
 
+    def heard(self) -> Dict[str, List[Heard]]:
+        """What was heard at each door, by its transport, when all was."""
+        return {it.transport: self.knocking.heard(it.transport) for it in self.all}
+
     def steps(self) -> List[Step]:
         """The steps of all doors, when all was heard."""
-        heard = {it.transport: self.knocking.heard(it.transport) for it in self._doors}
-        ways = {it.transport: self._first(it.transport) for it in self._doors}
-        return [_judged(it, heard, it.transport == self.wanted, ways) for it in self._doors]
+        heard = self.heard()
+        ways = {it.transport: self._first(it.transport) for it in self.all}
+        return [_judged(it, heard, it.transport == self.wanted, ways) for it in self.all]
 
     def _first(self, transport: str) -> Optional[Way]:
-        door = next((it for it in self._doors if it.transport == transport), None)
+        door = next((it for it in self.all if it.transport == transport), None)
         heard = self.knocking.heard(transport) if door is not None else []
         answering = [it.host for it in heard if it.verdict is Verdict.ANSWERS]
         return Way(answering[0], door) if door is not None and answering else None
@@ -104,6 +120,13 @@ def _doors(uri: TurnUri, context: Optional[tls.SSLContext]) -> List[Door]:
     return [*doors, Door("tls", _TLS_PORT, uri.host, secure)] if uri.port == _PORT else doors
 
 
+def _all_doors(uri: TurnUri, context: Optional[tls.SSLContext]) -> List[Door]:
+    """The doors of all transports: at the usual ports, where the URI has one of them, and else at its own."""
+    is_usual, secure = uri.port in (_PORT, _TLS_PORT), context or tls.create_default_context()
+    plain, of_tls = (_PORT, _TLS_PORT) if is_usual else (uri.port, uri.port)
+    return [Door("udp", plain, uri.host), Door("tcp", plain, uri.host), Door("tls", of_tls, uri.host, secure)]
+
+
 def _judged(door: Door, heard: Dict[str, List[Heard]], is_wanted: bool, ways: Dict[str, Optional[Way]]) -> Step:
     """The step of a door."""
     own = heard[door.transport]
@@ -121,7 +144,7 @@ def _judged(door: Door, heard: Dict[str, List[Heard]], is_wanted: bool, ways: Di
         # Where nothing answers, that is what is to be mended.
         advice = causes.about_unwanted(door, best) if any(ways.values()) else ""
         return Step(door.transport, Outcome.NOTE, said, best.seconds, advice, facts)
-    outcome = Outcome.UNTRIED if all(it.verdict is Verdict.UNREACHABLE for it in own) else Outcome.FAILED
+    outcome = Outcome.UNTRIED if all(it.verdict in NOT_OF_SERVER for it in own) else Outcome.FAILED
     return Step(door.transport, outcome, said, best.seconds, causes.about_closed(door, best, ways, heard), facts)
 
 
@@ -135,7 +158,7 @@ def _open(door: Door, own: List[Heard], best: Heard, is_wanted: bool, facts: Fac
     if best.certificate is not None and best.certificate.days_left < _SOON:
         known.append(f"The certificate ends in {best.certificate.days_left:.0f} days, on {best.certificate.end}: renew it, and let "
                      "the server read it again.")
-    is_dead = is_wanted and any(it.verdict is not Verdict.UNREACHABLE for it in rest)
+    is_dead = is_wanted and any(it.verdict not in NOT_OF_SERVER for it in rest)
     outcome = Outcome.FAILED if is_dead else Outcome.NOTE if known else Outcome.OK
     where = f" at {best.host}" if rest else ""
     return Step(door.transport, outcome, f"port {door.port} answers{where}{_seen(best)}", best.seconds, " ".join(known), facts)

@@ -7,7 +7,7 @@ from typing import List, Optional, TextIO
 from ..address import Address
 from .driver import leave_all
 from .exchange import Exchange
-from .output import Bar
+from .output import JSON_VERSION, Bar
 from .pair import Server, find_way, join
 from .traffic import measure
 
@@ -24,7 +24,8 @@ def echo(server: Server, peer: Optional[Address], count: int, size: int, pause: 
         if not is_json:
             print(f"from {own} to {trip.peer}, {count} packets of {size} bytes", file=out, flush=True)
         found = measure(trip, count, size, pause, Bar(errors, not is_json, "echo", count))
-        print(json.dumps({"relayed": str(own), "peer": str(trip.peer), **found.facts()}) if is_json else str(found), file=out)
+        facts = {"version": JSON_VERSION, "relayed": str(own), "peer": str(trip.peer), **found.facts()}
+        print(json.dumps(facts) if is_json else str(found), file=out)
         return 0 if found.times else 1
     finally:
         leave_all(opened)

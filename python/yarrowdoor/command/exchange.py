@@ -15,9 +15,9 @@ from .. import reasons
 from ..address import Address
 from ..answers import Event
 from ..client import Times
-from ..plain import PlainSession
 from ..redirect import TRY_ALTERNATE, alternate_of
 from ..wire import Wire
+from ..worker import Worker
 from .challenge import Challenge
 from .credentials import Credentials
 
@@ -70,7 +70,7 @@ class _Request:
     """whether the answer came so late that a packet must have been lost"""
 
 
-class Exchange(PlainSession):
+class Exchange(Worker):
     """A client and its wire. Without credentials it ends when the server has asked for some. Times are seconds of
     `time.monotonic`."""
 
@@ -80,8 +80,6 @@ class Exchange(PlainSession):
         super().__init__(wire, str(wire.remote), named.user, named.password, allocation=relay, families=(family,), times=times)
         self.relay, self.family, self._can_sign = relay, family, credentials is not None
         self.begun = time.monotonic()
-        self.judged = 0.0
-        """when an unsigned error counts as the answer"""
         self.lifetime: Optional[int] = None
         """of the relayed address at first, in seconds"""
         self.challenge: Optional[Challenge] = None
@@ -112,7 +110,11 @@ class Exchange(PlainSession):
 
     def count_late(self) -> int:
         """How many answers came so late that a packet must have been lost, and of a stream how many packets were sent again."""
-        return sum(it.is_late for it in self._requests.values()) + (_resent(self.wire) if self.wire.is_stream else 0)
+        return sum(it.is_late for it in self._requests.values()) + self.count_resent()
+
+    def count_resent(self) -> int:
+        """How many packets of a stream the system has sent again, and none over UDP."""
+        return _resent(self.wire) if self.wire.is_stream else 0
 
     def error_of(self, method: int) -> Optional[Said]:
         """The same, where it is an error with a code."""

@@ -2,6 +2,7 @@
 from __future__ import annotations
 
 import ipaddress
+import os
 import time
 from dataclasses import replace
 from typing import Callable, Iterator, List, Optional, Sequence
@@ -13,10 +14,13 @@ from . import advice
 from .credentials import Credentials
 from .driver import leave_all
 from .exchange import Exchange
+from .files import about_files, is_no_file
 from .relays import allocate, facts_of
 from .steps import Facts, Outcome, Step
 
-__all__ = ["balancer_step", "flows_step", "limit_step", "nonce_step", "quota_step", "server_step", "streams_step"]
+__all__ = [
+    "balancer_step", "blamed_on_balancer", "flows_step", "limit_step", "nonce_step", "quota_step", "server_step", "streams_step",
+]
 
 # Addresses that nobody has (RFC 5737): a permission for one lets nobody send.
 _NOBODY = ipaddress.ip_network("192.0.2.0/24")
@@ -24,6 +28,8 @@ _NOBODY = ipaddress.ip_network("192.0.2.0/24")
 _LEAST_PAUSE = 1.0
 # So many nonces that were stale as soon as they were given are not of one server.
 _EARLY = 1
+# What fails where each of several servers knows a part of what this client was granted.
+_OF_BALANCER = ("allocation-2", "permission", "messages", "outside", "indications", "channel", "channels", "payload", "flows")
 
 
 def streams_step(exchange: Exchange, seconds: float) -> Step:
@@ -64,6 +70,13 @@ def balancer_step(exchanges: Sequence[Exchange]) -> Optional[Step]:
                 {"stale": early})
 
 
+def blamed_on_balancer(step: Step, exchanges: Sequence[Exchange]) -> Step:
+    """A step that has failed since a balancer sends packets to several servers, as what follows from that, and any other one as it
+    is."""
+    is_of_it = step.outcome is Outcome.FAILED and step.name in _OF_BALANCER and balancer_step(exchanges) is not None
+    return replace(step, outcome=Outcome.NOTE, advice="That follows from what `balancer` says.") if is_of_it else step
+
+
 def flows_step(exchanges: Sequence[Exchange]) -> Optional[Step]:
     """What it means that nothing at all has come back to some local ports, where others are answered; None where all are."""
     silent = [it for it in exchanges if it.is_unheard()]
@@ -100,6 +113,7 @@ def nonce_step(exchange: Exchange, longest: float, told: Callable[[int], None]) 
 def quota_step(make: Callable[[], Exchange], most: int, held: int, seconds: float, told: Callable[[int], None]) -> Step:
     """How many relayed addresses the user gets at one time, up to `most`, where `held` are there already. All are given back."""
     begun, made = time.monotonic(), []  # type: float, List[Exchange]
+    spare = os.open(os.devnull, os.O_RDONLY)  # Where this host opens no more files, its place serves to give all back.
     try:
         while held + len(made) < most:
             made.append(make())
@@ -108,9 +122,13 @@ def quota_step(make: Callable[[], Exchange], most: int, held: int, seconds: floa
             told(held + len(made))
     except OSError as error:
         spent = time.monotonic() - begun
-        said = f"{held + len(made)} addresses, then {error}"
-        return Step("quota", Outcome.UNTRIED, said, spent, "This host opens no more sockets.")
+        found, facts = f"{held + len(made)} addresses", {"granted": held + len(made)}  # type: str, Facts
+        if is_no_file(error):
+            advised = "That is a limit of this host: raise it (ulimit -n), or ask for fewer (--quota)."
+            return Step("quota", Outcome.UNTRIED, f"{found}; {about_files()}", spent, advised, facts)
+        return Step("quota", Outcome.UNTRIED, f"{found}, then {error}", spent, "This host opens no more sockets.", facts)
     finally:
+        os.close(spare)
         leave_all(made)
     spent = time.monotonic() - begun
     said = f"{most} addresses at one time, and no limit was met"

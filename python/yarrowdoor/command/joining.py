@@ -2,6 +2,7 @@
 from __future__ import annotations
 
 import contextlib
+import itertools
 from dataclasses import dataclass, replace
 from typing import Callable, Iterator, List, Optional, Sequence, Tuple
 
@@ -9,17 +10,20 @@ from .. import reasons
 from ..address import Address
 from ..asked import About
 from ..driver import drive
+from ..errors import Ended, Refused
 from .exchange import Exchange
 from .outside import Outside, hosts_of_peer, is_own_host, peer_step, untried_step
 from .output import Output
 from .relays import grant_step, is_judged, permission_step
 from .steps import Outcome, Step
-from .traffic import LAST_WAIT, Flight, Trip, echo_step, first_sizes, payload_step, send_back
+from .traffic import FAR, LAST_WAIT, Flight, Trip, echo_step, first_sizes, measure, payload_step, send_back
 
 __all__ = ["Joining", "Limits"]
 
 # The packets of an echo: how many, their bytes, and the pause between two, in seconds.
 COUNT, SIZE, PAUSE = 100, 160, 0.002
+# So many packets tell whether anything comes back.
+_FEW = 10
 # The longest payload that is tried over UDP, in bytes. Over TCP a longer one than this may end a server (pion ends at 1,600).
 MOST, MOST_OF_STREAM = 65_468, 1_500
 # The error of a peer that the server does not permit (RFC 8656, section 19).
@@ -60,6 +64,9 @@ class Joining:
         if step is not None:
             yield self._denied(step) if step.facts.get("code") == _FORBIDDEN and is_outside else step
         trip = self._pair() if is_joined else None
+        if self._outside is not None and is_outside and self._second.address is not None and \
+                any(it in self._second.granted for it in self._outside.hosts):
+            self._outside.send_further(self._second, self._second.address)
         messages = self._messages(trip) if trip is not None else None
         if messages is not None:
             yield messages
@@ -90,7 +97,8 @@ class Joining:
     def _permit(self) -> Optional[Step]:
         """Asks for the permissions of the pair, and of the peer outside."""
         hosts = [] if self._outside is None else self._outside.hosts
-        asks: List[Tuple[Exchange, About]] = [(self._first, it) for it in hosts]
+        own = [self._first] if self._second.address is None else [self._first, self._second]
+        asks: List[Tuple[Exchange, About]] = [(exchange, it) for it in hosts for exchange in own]
         if self._second.address is not None:
             pair, addresses = (self._first, self._second), (self._second.address, self._address)
             step = permission_step(pair, addresses, self._limits.seconds, asks)
@@ -98,8 +106,8 @@ class Joining:
             step = None
             for exchange, about in asks:
                 exchange.ask(about)
-        all_open = [self._first, *self._beside]
-        drive(all_open, lambda: all(is_judged(it, reasons.CREATE_PERMISSION, about) for it, about in asks), self._limits.seconds)
+        working = [*own, *self._beside]
+        drive(working, lambda: all(is_judged(it, reasons.CREATE_PERMISSION, about) for it, about in asks), self._limits.seconds)
         return step
 
     def _is_outside_permitted(self) -> bool:
@@ -117,7 +125,31 @@ class Joining:
     def _pair(self) -> Trip:
         assert self._second.address is not None, "the two are joined"
         send_back(self._second)
+        if self._first.round_trip(reasons.ALLOCATE) > FAR:
+            self._bind_after(COUNT, self._second.address)
         return Trip(self._first, self._second.address, (self._first, self._second), self._files(), self._beside)
+
+    def _bind_after(self, count: int, peer: Address) -> None:
+        """Has the channels asked for when the second one has sent so many packets back: the last ones are on their way as messages
+        then, and a server that is far away answers when they come, in place of a round trip later."""
+        back, left = self._second.on_data, itertools.count(1)
+
+        def count_back(data: bytes, source: Address) -> None:
+            back(data, source)
+            if next(left) == count:
+                with contextlib.suppress(Ended, Refused):
+                    self._second.ask(self._address)
+                    self._first.ask(peer)
+
+        self._second.on_data = count_back
+
+    def _by_channel_only(self, trip: Trip) -> Iterator[Step]:
+        """Where no message comes back: what it means that packets do by a channel, if any does."""
+        found = measure(trip, _FEW, SIZE, PAUSE, lambda number: None, LAST_WAIT / 2)
+        if found.times:
+            yield Step("indications", Outcome.FAILED, f"by a channel {found}", 0.0,
+                       "Channels pass, and messages do not: a firewall on the way that looks into TURN, or the server, drops Send "
+                       "or Data indications (RFC 8656, section 11), and not what `messages` and `outside` name.", found.facts())
 
     def _files(self) -> List[Tuple[int, Callable[[], None]]]:
         return [] if self._outside is None else [(self._outside.fileno(), self._outside.read)]
@@ -151,13 +183,17 @@ class Joining:
             step = grant_step((first,), (trip.peer,), self._limits.seconds)
         yield step
         if messages.facts.get("received") == 0:
-            return  # Nothing comes back, whatever the way.
+            if step.outcome is Outcome.OK and not messages.facts.get("is_limited"):
+                yield from self._by_channel_only(trip)
+            return
         most = MOST_OF_STREAM if first.wire.is_stream else MOST
         passed = None
         if step.outcome is Outcome.OK:
             probes = first_sizes(most) if messages.outcome is not Outcome.FAILED else []
             step, passed = echo_step(trip, "channels", self._flight(), self._output.bar("channels", COUNT), LAST_WAIT, probes)
             yield step
+            if step.facts.get("received") == 0:
+                return  # Longer ones by the channel would not come back either.
         if messages.outcome is not Outcome.FAILED:
             times = [it for it in map(messages.facts.get, ("least", "most")) if isinstance(it, float)]
             pause = min(0.1 + sum(times), _LONGEST) if times else LAST_WAIT

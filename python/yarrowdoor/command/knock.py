@@ -15,7 +15,7 @@ from .. import reasons
 from ..client import Client
 from ..wire import SilentHandshake, Tap, Wire, connect_stream, connect_udp
 from .certificate import of_peer, read_refused
-from .handshakes import is_alert
+from .handshakes import answers_hello, is_alert, read_alert
 from .icmp import keep_rejections, rejection_of
 from .reach import Door, Heard, Verdict
 from .steps import printable
@@ -25,7 +25,9 @@ __all__ = ["knock"]
 # When a datagram is sent, in seconds from the beginning, and then again until the end.
 _TIMES, _PAUSE = (0.0, 0.25, 0.75), 0.5
 # How long the second of two answers is waited for after the first one, and an answer that is late, or comes from elsewhere.
-_SECOND, _LATE = 0.6, 1.0
+_SECOND, _LATE = 1.0, 1.0
+# The pause after which the request that has no answer is sent again, while the second answer is waited for.
+_SOON = 0.15
 # The longest wait when a port is looked at again, to tell what it is.
 _AGAIN = 0.75
 # What a connection says that was made, and is no more.
@@ -50,7 +52,7 @@ def _not_connected(door: Door, host: str, seconds: float, begun: float, error: O
     certificate = None
     if isinstance(error, tls.SSLCertVerificationError):
         verdict, certificate = Verdict.CERTIFICATE, read_refused(host, door.port, door.name, seconds)
-    elif isinstance(error, (tls.SSLEOFError, tls.SSLZeroReturnError)) or error.errno in _BROKEN:
+    elif _is_end(error) or error.errno in _BROKEN:
         verdict = Verdict.CLOSED
     elif isinstance(error, tls.SSLError):
         verdict = Verdict.HANDSHAKE if is_alert(error) else Verdict.NO_TLS
@@ -63,6 +65,13 @@ def _not_connected(door: Door, host: str, seconds: float, begun: float, error: O
     else:
         verdict = Verdict.REJECTED if door.transport != "udp" and _has_route(host, door.port) else Verdict.UNREACHABLE
     return Heard(verdict, host, time.monotonic() - begun, None, error, certificate)
+
+
+def _is_end(error: OSError) -> bool:
+    """Whether TLS says that the connection has ended. Python before 3.10 has no error of its own for it."""
+    if isinstance(error, (tls.SSLEOFError, tls.SSLZeroReturnError)):
+        return True
+    return isinstance(error, tls.SSLError) and "UNEXPECTED_EOF" in str(error.reason)
 
 
 def _has_route(host: str, port: int) -> bool:
@@ -82,20 +91,29 @@ def _connected(wire: Wire, host: str, begun: float, seconds: float) -> Heard:
     try:
         verdict = talk.run(begun + seconds)
     except ConnectionRefusedError as error:
-        return Heard(Verdict.REFUSED, host, time.monotonic() - begun, None, error, rejection=rejection_of(wire.fileno()))
+        return _rejected(wire, Heard(Verdict.REFUSED, host, time.monotonic() - begun, None, error))
     except tls.SSLError as error:
         verdict = Verdict.HANDSHAKE if is_alert(error) else Verdict.CLOSED
         return Heard(verdict, host, time.monotonic() - begun, None, error, certificate)
     except OSError as error:
         if wire.is_stream:
             return Heard(Verdict.CLOSED, host, time.monotonic() - begun, None, error, certificate)
-        return Heard(Verdict.REJECTED, host, time.monotonic() - begun, None, error, rejection=rejection_of(wire.fileno()))
+        return _rejected(wire, Heard(Verdict.REJECTED, host, time.monotonic() - begun, None, error))
     mapped = next((it.mapped for it in talk.answers.values() if it.mapped is not None), None)
     has_binding = any(it.method == reasons.BINDING and it.error is None for it in talk.answers.values())
     if verdict is Verdict.SILENT:
         return _look_elsewhere(wire, talk, host, begun)
     spent = talk.answered - begun if talk.answered else time.monotonic() - begun
     return Heard(verdict, host, spent, mapped, None, certificate, None, talk.first, has_binding)
+
+
+def _rejected(wire: Wire, found: Heard) -> Heard:
+    """Who has rejected a datagram: this host may do so itself, by an error in sending or by ICMP."""
+    rejection = rejection_of(wire.fileno())
+    is_own = rejection is not None and rejection.sender == str(wire.local[0]) != found.host
+    if is_own or isinstance(found.error, PermissionError):
+        return replace(found, verdict=Verdict.FORBIDDEN_HERE, rejection=rejection)
+    return replace(found, rejection=rejection)
 
 
 class _Talk:
@@ -119,18 +137,25 @@ class _Talk:
         while now < deadline and len(self.answers) < len(self.packets):
             if now >= due:
                 for packet in self.packets:
-                    self._wire.send(packet)
-                due = deadline if self._wire.is_stream else begun + next(times, now + _PAUSE - begun)
+                    if not self._is_answered(packet):
+                        self._wire.send(packet)
+                pause = now + (_SOON if self.answered else _PAUSE) - begun
+                due = deadline if self._wire.is_stream else begun + (pause if self.answered else next(times, pause))
             if self._wire.has_more() or select.select([self._wire], [], [], max(0.0, min(deadline, due) - now))[0]:
                 if self.take(self._wire.receive()):
                     return Verdict.ANSWERS if self.answers else Verdict.STRANGE if self.first else Verdict.CLOSED
             if self.answers and not self.answered:
                 self.answered = time.monotonic()
                 deadline = min(deadline, self.answered + _SECOND)
+                due = deadline if self._wire.is_stream else min(due, self.answered + _SOON)
             now = time.monotonic()
         if self.answers:
             return Verdict.ANSWERS
         return Verdict.STRANGE if self._has_come else Verdict.MUTE if self._wire.is_stream else Verdict.SILENT
+
+    def _is_answered(self, packet: bytes) -> bool:
+        message = reasons.read(packet)
+        return message is not None and message.transaction in self.answers
 
     def take(self, data: Optional[bytes]) -> bool:
         """Takes what has come, and says whether nothing more will."""
@@ -194,11 +219,15 @@ def _look_elsewhere(wire: Wire, talk: _Talk, host: str, begun: float) -> Heard:
 
 def _look_again(door: Door, found: Heard, seconds: float, tap: Tap) -> Heard:
     """Tells a port of TLS from one of plain TCP, where it does not answer as the URI has it."""
-    if door.transport == "tls" and found.verdict is Verdict.CLOSED:
-        found = _read_alert(door, found, seconds, tap)
+    if door.transport == "tls" and found.verdict in (Verdict.CLOSED, Verdict.NO_TLS):
+        found = _look_for_alert(door, found, seconds)
     with contextlib.suppress(OSError, ValueError):
         if found.verdict is Verdict.MUTE and (door.transport == "tcp" or found.certificate is not None):
             found = _try_http(door, found, seconds, tap)
+        if door.transport == "tls" and found.verdict is Verdict.MUTE and found.certificate is None:
+            with contextlib.suppress(OSError), socket.create_connection((found.host, door.port), seconds) as sock:
+                if answers_hello(sock, seconds):
+                    return replace(found, other="hello")
         if door.transport == "tls" and found.verdict in (Verdict.MUTE, Verdict.NO_TLS, Verdict.CLOSED):
             with contextlib.closing(connect_stream(found.host, door.port, seconds, tap)) as wire:
                 talk = _Talk(wire)
@@ -224,16 +253,12 @@ def _try_http(door: Door, found: Heard, seconds: float, tap: Tap) -> Heard:
     return found
 
 
-def _read_alert(door: Door, found: Heard, seconds: float, tap: Tap) -> Heard:
-    """Makes the connection again and sends nothing on it: what a server has to say at the end of a handshake is lost where it has
-    not read what came behind."""
-    try:
-        with contextlib.closing(connect_stream(found.host, door.port, seconds, tap, door.context, door.name)) as wire:
-            if select.select([wire], [], [], seconds)[0]:
-                wire.receive()
-    except tls.SSLError as error:
-        if is_alert(error):
-            return replace(found, verdict=Verdict.HANDSHAKE, error=error)
-    except OSError:
-        pass
+def _look_for_alert(door: Door, found: Heard, seconds: float) -> Heard:
+    """Makes the handshake again, for the alert that it may have ended with: it is lost where the reset behind it, or an error in
+    sending, was seen first."""
+    assert door.context is not None, "a door of TLS has a context"
+    with contextlib.suppress(OSError), socket.create_connection((found.host, door.port), seconds) as sock:
+        alert = read_alert(sock, door.context, door.name, seconds)
+        if alert is not None:
+            return replace(found, verdict=Verdict.HANDSHAKE, error=alert)
     return found

@@ -9,18 +9,20 @@ import os
 import signal
 import ssl as tls
 import sys
-from typing import Iterator, List, Optional
+from dataclasses import replace
+from typing import Callable, Iterator, List, Optional
 
 from ..errors import Ended, LibraryError, Refused, YarrowdoorError
-from ..library import load
+from ..library import load as load_library
 from ..wire import Tap
 from .arguments import parser
 from .bench import bench
 from .capture import Capture, CaptureError
 from .check import Plan, check
-from .credentials import Credentials, NoCredentials, resolve
+from .credentials import Credentials, NoCredentials, source
 from .echo import echo
-from .output import JSON_VERSION, JsonOutput, TextOutput
+from .load import Wanted, load
+from .output import JSON_VERSION, JsonOutput, Output, TextOutput
 from .pair import CannotRelay, Server
 from .relay import relay
 from .steps import status_of
@@ -38,8 +40,8 @@ def main(words: Optional[List[str]] = None) -> int:
     with contextlib.suppress(ValueError):  # In another thread than the first one there are no signals.
         signal.signal(signal.SIGTERM, signal.default_int_handler)  # so that what the server has granted is given back
     try:
-        load()
-        credentials = resolve(options.user, options.password_file, options.secret_file, options.ask_secret)
+        load_library()
+        credentials = source(options.user, options.password_file, options.secret_file, options.ask_secret)
         context = _context(options.ca)
         with _tap(options.pcap) as tap:
             return _run(options, credentials, context, tap)
@@ -56,11 +58,12 @@ def main(words: Optional[List[str]] = None) -> int:
         return _INTERRUPTED
 
 
-def _check(options: argparse.Namespace, plan: Plan, tap: Tap) -> int:
-    """A check, and its exit status. What was found before an error, or an interrupt, is printed too."""
+def _told(options: argparse.Namespace, work: Callable[[Output], None]) -> int:
+    """Does work that adds steps to an output, and gives the exit status. What was found before an error, or an interrupt, is
+    printed too."""
     output = JsonOutput(sys.stdout, str(options.uri)) if options.json else TextOutput(sys.stdout)
     try:
-        check(plan, output, tap)
+        work(output)
     except KeyboardInterrupt:
         return output.fail("interrupted", _INTERRUPTED) if options.json else _INTERRUPTED
     except (CaptureError, LibraryError, OSError, ValueError, YarrowdoorError) as error:
@@ -70,16 +73,27 @@ def _check(options: argparse.Namespace, plan: Plan, tap: Tap) -> int:
     return output.end()
 
 
-def _run(options: argparse.Namespace, credentials: Optional[Credentials], context: Optional[tls.SSLContext], tap: Tap) -> int:
-    if options.command == "check":
-        plan = Plan(options.uri, credentials, context, options.family, options.timeout, options.nonce, options.quota, options.peer,
-                    options.security, options.max_loss)
-        return _check(options, plan, tap)
-    if credentials is None:
+def _run(options: argparse.Namespace, credentials: Callable[[], Optional[Credentials]], context: Optional[tls.SSLContext],
+         tap: Tap) -> int:
+    if options.command in ("check", "probe"):
+        plan = Plan(options.uri, credentials(), context, options.family, options.timeout, peer=options.peer,
+                    has_security=options.security, max_loss=options.max_loss, is_all=options.all)
+        if options.command == "check":
+            plan = replace(plan, nonce=options.nonce, quota=options.quota)
+            return _told(options, lambda output: check(plan, output, tap))
+        from .probe import Probing, probe, probe_once  # The server of HTTP takes long to import, which a check does without.
+        probing = Probing(plan, credentials, tap, options.json, sys.stdout)
+        return probe_once(probing) if options.once else probe(probing, options.every, options.listen)
+    named = credentials()
+    if named is None:
         raise NoCredentials("there are no credentials: name a user by --user NAME")
-    server = Server(options.uri, credentials, context, options.family, options.timeout, tap)
+    server = Server(options.uri, named, context, options.family, options.timeout, tap)
     if options.command == "relay":
         return relay(server, options.listen, options.peer, sys.stdout)
+    if options.command == "load":
+        wanted = Wanted(options.allocations, options.rate, options.packets, options.hold, options.size, options.channel,
+                        options.max_loss, options.peer)
+        return _told(options, lambda output: load(server, wanted, output))
     if options.command == "echo":
         return echo(server, options.peer, options.count, options.size, options.pause, options.channel, options.json, sys.stdout,
                     sys.stderr)

@@ -7,7 +7,7 @@ import os
 import sys
 import textwrap
 from dataclasses import replace
-from typing import List, Optional, TextIO
+from typing import List, Optional, Sequence, TextIO
 
 from .steps import Outcome, Step, status_of
 
@@ -86,6 +86,8 @@ class TextOutput(Output):
         if self._has_colour:
             word = f"\033[{_COLOURS[step.outcome]}m{word}\033[0m"
         print(f"{step.name:<11} {word} {step.seconds * 1e3:7.0f} ms  {step.said}", file=self._file)
+        for line in _lines(step.table):
+            print(f"{'':12}{line}", file=self._file)
         if step.advice:
             print(textwrap.fill(step.advice, 110, initial_indent=" " * 12, subsequent_indent=" " * 12, break_long_words=False,
                                 break_on_hyphens=False), file=self._file)
@@ -104,6 +106,12 @@ class TextOutput(Output):
     def bar(self, what: str, count: int) -> Bar:
         self._bar = Bar(sys.stderr, self._is_terminal, what, count)
         return self._bar
+
+
+def _lines(table: Sequence[Sequence[str]]) -> List[str]:
+    """The lines of a table, whose columns are as wide as they need to be."""
+    widths = [max(map(len, it)) for it in zip(*table)]
+    return ["  ".join(f"{word:<{width}}" for word, width in zip(row, widths)).rstrip() for row in table]
 
 
 class JsonOutput(Output):

@@ -9,7 +9,7 @@ import ipaddress
 import os
 import socket
 import time
-from typing import List, Optional, Sequence, Set
+from typing import Callable, List, Optional, Sequence, Set, Tuple
 
 from .. import reasons
 from ..address import Address
@@ -20,7 +20,7 @@ from .exchange import Exchange, Said
 from .relays import facts_of, is_judged
 from .steps import Facts, Outcome, Step
 
-__all__ = ["Outside", "hosts_of_peer", "is_own_host", "peer_step", "untried_step"]
+__all__ = ["Outside", "hosts_of_peer", "hosts_outside", "is_own_host", "peer_step", "untried_step"]
 
 COUNT = 3
 # How long packets of one direction are waited for at least, in seconds, and for how many round trips of a request.
@@ -49,7 +49,12 @@ def hosts_of_peer(exchange: Exchange, relayed: Address) -> List[str]:
     local, server = (str(it[0]) for it in (exchange.wire.local, exchange.wire.remote))
     if advice.about_mapped(mapped, local, server, exchange.wire.is_stream):
         return [*found, mapped]  # A proxy is between, maybe of what goes to the port of TURN only.
-    return [mapped]
+    return [mapped, *(it for it in found if it != mapped)]  # A NAT may be of that port only too.
+
+
+def hosts_outside(exchange: Exchange, relayed: Address) -> List[str]:
+    """The same, and none where this host is the server's, since that is no peer outside."""
+    return [] if is_own_host(str(exchange.wire.remote[0]), relayed.host) else hosts_of_peer(exchange, relayed)
 
 
 def untried_step(why: str, advised: str, said: Optional[Said] = None) -> Step:
@@ -75,6 +80,8 @@ class Outside:
         self.seen: Optional[Address] = None
         """where the server saw this socket"""
         self._source: Optional[str] = None
+        self._further: Optional[Address] = None
+        self._furtherward: Set[bytes] = set()
         self._begun = self._last = time.monotonic()
 
     def __enter__(self) -> Outside:
@@ -91,9 +98,30 @@ class Outside:
         """Sends to the relayed address. What comes of it is taken whenever the exchange is driven."""
         self._begun = time.monotonic()
         self._exchange.on_data = self.take
+        self._send_inward()
+
+    def send_further(self, exchange: Exchange, relayed: Address) -> None:
+        """Sends to another relayed address too, of an exchange that permits this host: a firewall may pass some of the ports
+        only. What comes to it from others goes to who took it before."""
+        before, self._further = exchange.on_data, relayed
+
+        def take(data: bytes, peer: Address) -> None:
+            if data.startswith(self._tag):
+                self._furtherward.add(data)
+                self._last = time.monotonic()
+            else:
+                before(data, peer)
+
+        exchange.on_data = take
+        self._send_to(relayed)
+
+    def _send_inward(self) -> None:
+        self._send_to(self._relayed)
+
+    def _send_to(self, relayed: Address) -> None:
         for number in range(COUNT):
             with contextlib.suppress(OSError):
-                self._socket.sendto(self._tag + b"i%d" % number, (self._relayed.host, self._relayed.port))
+                self._socket.sendto(self._tag + b"i%d" % number, (relayed.host, relayed.port))
 
     def take(self, data: bytes, peer: Address) -> None:
         """Takes what has come to the relayed address, and sends back to where the first packet came from."""
@@ -101,14 +129,14 @@ class Outside:
             self._inward.add(data)
             self._last = time.monotonic()
             self.seen = self.seen or peer
-            self._send(peer)
+            if not self._has_sent:
+                self._send(peer)
 
     def _send(self, to: Address) -> None:
-        if not self._has_sent:
-            self._has_sent = True
-            for number in range(COUNT):
-                with contextlib.suppress(Ended, Refused):
-                    self._exchange.send(self._tag + b"o%d" % number, to)
+        self._has_sent = True
+        for number in range(COUNT):
+            with contextlib.suppress(Ended, Refused):
+                self._exchange.send(self._tag + b"o%d" % number, to)
 
     def read(self) -> None:
         """Takes what has come to this socket. What is not of this step is sent back, as a peer of `messages` does."""
@@ -125,21 +153,47 @@ class Outside:
         """Waits for what is still to come, and judges."""
         wait = max(_WAIT, _TRIPS * self._exchange.round_trip(reasons.ALLOCATE) + 0.1)
         files = [(self.fileno(), self.read)]
-        drive(others, lambda: len(self._inward) == COUNT, self._begun + wait - time.monotonic(), files)
+        drive(others, self._has_all_inward, self._begun + wait - time.monotonic(), files)
+        to = self.seen or Address(self.host, self._socket.getsockname()[1])
         if not self._has_sent and not self._is_translated:
-            self._send(Address(self.host, self._socket.getsockname()[1]))
+            self._send(to)
         if self._has_sent:
             drive(others, lambda: len(self._outward) == COUNT, wait, files)
-        is_all = len(self._inward) == len(self._outward) == COUNT
+        if not self._inward or self._has_sent and not self._outward or self._further is not None and not self._furtherward:
+            self._repeat(to, others, wait, files)
+        is_all = self._has_all_inward() and len(self._outward) == COUNT
         return self._step((self._last if is_all else time.monotonic()) - self._begun)
+
+    def _repeat(self, to: Address, others: Sequence[Exchange], wait: float,
+                files: Sequence[Tuple[int, Callable[[], None]]]) -> None:
+        """Sends once more where nothing at all has come: a network that loses packets may have lost all of them."""
+        if self._further is not None and not self._furtherward:
+            self._send_to(self._further)
+        if not self._inward:
+            self._send_inward()
+        elif not self._outward:
+            self._send(to)
+        is_back = bool(self._outward) or not self._inward
+        drive(others, lambda: self._has_all_inward() and (is_back or len(self._outward) == COUNT), wait, files)
+
+    def _has_all_inward(self) -> bool:
+        return len(self._inward) == COUNT and (self._further is None or len(self._furtherward) == COUNT)
 
     def _step(self, spent: float) -> Step:
         facts: Facts = {"in": len(self._inward), "out": len(self._outward) if self._has_sent else None, "sent": COUNT,
                         "peer": str(self.seen) if self.seen is not None else self.host}
+        if self._further is not None:
+            facts.update(further=str(self._further), further_in=len(self._furtherward))
         out = f"{len(self._outward)} of {COUNT} from there here" if self._has_sent else "from there was not tried (NAT)"
         said = f"{len(self._inward)} of {COUNT} packets from here ({facts['peer']}) get to {self._relayed}, {out}"
+        if self._further is not None and self._is_one_closed():
+            said += f"; {len(self._furtherward)} of {COUNT} to {self._further}"
         wrong = self._wrong()
         return Step("outside", Outcome.FAILED if wrong else Outcome.OK, said, spent, wrong, facts)
+
+    def _is_one_closed(self) -> bool:
+        """Whether packets get to one of the two relayed addresses only."""
+        return bool(self._furtherward) != bool(self._inward)
 
     def _wrong(self) -> str:
         """What is wrong, or nothing."""
@@ -148,6 +202,12 @@ class Outside:
             return (f"What is sent from the relayed address {relayed} comes from {self._source}: the server tells its clients an "
                     f"address that is not its own (coturn: external-ip={self._source}, or remove external-ip=), or a NAT before it "
                     "sends by another address than it takes packets at.")
+        if self._further is not None and self._is_one_closed():
+            reached, closed = (self._relayed, self._further) if self._inward else (self._further, self._relayed)
+            return (f"Packets of a peer outside get to the relayed address {reached}, and not to {closed}: a firewall at the "
+                    "server or before it lets in a part of the relay ports, or a NAT or container forwards a part. Open "
+                    "and forward all of them over UDP (coturn: 49152-65535, or min-port= to max-port=). If this host's "
+                    "own network lets UDP out to few ports only, check from another one.")
         if not self._inward:
             alone = "" if self._outward else ", or its external-ip= is the address of another host"
             return (f"No packet of a peer outside gets to the relayed address {self._relayed}: a firewall at the server or before "
@@ -164,6 +224,9 @@ class Outside:
 
 def peer_step(exchange: Exchange, peer: Address, seconds: float) -> Step:
     """Sends to a peer that sends back what it is sent, and counts."""
+    if exchange.address is not None and (":" in exchange.address.host) != (":" in peer.host):
+        return Step("outside", Outcome.UNTRIED, f"not tried: the relayed address {exchange.address} is of the other family", 0.0,
+                    f"Name a peer of the family of {exchange.address.host}.")
     begun, back, tag = time.monotonic(), set(), b"\xff" + os.urandom(7)  # type: float, Set[bytes], bytes
     exchange.on_data = lambda data, source: back.add(data) if data.startswith(tag) and source == peer else None
     with contextlib.suppress(Ended, Refused):
@@ -172,7 +235,7 @@ def peer_step(exchange: Exchange, peer: Address, seconds: float) -> Step:
         said = exchange.answer_to(reasons.CREATE_PERMISSION, peer.host)
         if peer.host not in exchange.granted:
             told = f"the server refuses {peer.host} as a peer: {said}" if said is not None else "no answer to the permission"
-            advised = advice.about_peer(peer.host, said)
+            advised = advice.about_outside_peer(peer.host, said)
             return Step("outside", Outcome.FAILED, told, time.monotonic() - begun, advised, facts_of(said))
         for number in range(COUNT):
             exchange.send(tag + b"%d" % number, peer)

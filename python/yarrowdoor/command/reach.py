@@ -6,7 +6,7 @@ import queue
 import socket
 import ssl as tls
 import threading
-from concurrent.futures import Future, ThreadPoolExecutor
+from concurrent.futures import Future, ThreadPoolExecutor, wait
 from dataclasses import dataclass
 from typing import Callable, Dict, List, Optional, Sequence, Tuple, Union
 
@@ -15,7 +15,7 @@ from ..servers import interleaved
 from .certificate import Certificate
 from .icmp import Rejection
 
-__all__ = ["Door", "Heard", "Knocking", "Verdict", "Way", "lookup"]
+__all__ = ["Door", "Heard", "Knocking", "NOT_OF_SERVER", "Verdict", "Way", "lookup"]
 
 
 class Verdict(enum.Enum):
@@ -31,9 +31,14 @@ class Verdict(enum.Enum):
     STRANGE = "something else answers"
     REJECTED = "rejected"
     UNREACHABLE = "there is no way to it"
+    FORBIDDEN_HERE = "rejected by this host's own rules"
     CERTIFICATE = "the certificate is refused"
     HANDSHAKE = "TLS fails"
     NO_TLS = "something answers that speaks no TLS"
+
+
+# What says nothing of the server.
+NOT_OF_SERVER = (Verdict.UNREACHABLE, Verdict.FORBIDDEN_HERE)
 
 
 @dataclass(frozen=True)
@@ -119,6 +124,10 @@ class Knocking:
     def heard(self, transport: str) -> List[Heard]:
         """What was heard at the door of this transport, by address, when all of it was."""
         return [it.result() for it in self._asked[transport]]
+
+    def is_heard(self, transport: str, seconds: float) -> bool:
+        """Whether all was heard at the door of this transport, or is within so many seconds."""
+        return not wait(self._asked[transport], seconds).not_done
 
     def is_done(self) -> bool:
         """Whether all was heard at all doors."""

@@ -17,7 +17,7 @@ from .steps import Facts, Outcome, Step
 
 __all__ = [
     "NO_SUCH_FAMILY", "allocate", "allocation_step", "challenge_step", "facts_of", "family_step", "grant_step", "is_judged",
-    "is_settled", "permission_step",
+    "is_settled", "permission_step", "refused_step",
 ]
 
 # The error of a server that has no relayed addresses of a family (RFC 8656, section 19).
@@ -73,9 +73,8 @@ def allocation_step(exchange: Exchange, credentials: Credentials, seconds: float
     begun = time.monotonic()
     is_there = allocate(exchange, seconds, others)
     spent = exchange.round_trip(reasons.ALLOCATE) if is_there else time.monotonic() - begun
-    realm = exchange.challenge.realm if exchange.challenge is not None else ""
     if exchange.address is None:
-        return _refused(exchange, credentials, realm, spent)
+        return refused_step(exchange, credentials, spent)
     relayed, mapped = exchange.address, exchange.mapped
     facts: Facts = {"relayed": str(relayed), "mapped": str(mapped) if mapped else None, "lifetime": exchange.lifetime}
     said = f"{relayed}, for {exchange.lifetime} s{f', sees this host at {mapped}' if mapped else ''}"
@@ -86,13 +85,16 @@ def allocation_step(exchange: Exchange, credentials: Credentials, seconds: float
     return Step("allocation", outcome, said, spent, wrong, facts)
 
 
-def _refused(exchange: Exchange, credentials: Credentials, realm: str, spent: float) -> Step:
+def refused_step(exchange: Exchange, credentials: Credentials, spent: float) -> Step:
+    """Why there is no relayed address."""
+    realm = exchange.challenge.realm if exchange.challenge is not None else ""
     said = exchange.error_of(reasons.ALLOCATE)
     if said is not None:
         return Step("allocation", Outcome.FAILED, f"refused: {said}", spent, advice.about_refusal(said, credentials, realm),
                     facts_of(said))
     if exchange.error is not None:
-        return Step("allocation", Outcome.FAILED, str(exchange.error), spent, "The connection to the server broke: see its log.")
+        return Step("allocation", Outcome.FAILED, str(exchange.error), spent, "The connection to the server broke: see its log, "
+                    "or a firewall on the way that looks into what passes ended it.")
     told = advice.about_silence(exchange.is_unheard(), exchange.count_late() > 0, exchange.stale, spent)
     found = "no answer" if exchange.is_unheard() else "no answer to the signed request"
     if exchange.stale > 1:
@@ -133,10 +135,13 @@ def grant_step(exchanges: Sequence[Exchange], addresses: Sequence[Address], seco
     """Binds the relayed addresses to channels of each other."""
     failed, spent = _grants(reasons.CHANNEL_BIND, [*zip(exchanges, addresses)], seconds)
     if failed is None:
+        # Where they were asked for before, the answers may be here.
+        spent = max(it.round_trip(reasons.CHANNEL_BIND) for it in exchanges)
         return Step("channel", Outcome.OK, f"to {addresses[0]}", spent)
     said = failed[0].answer_to(reasons.CHANNEL_BIND, host_of(failed[1]))
     told = f"refused: {said}" if said is not None else "no answer"
-    return Step("channel", Outcome.FAILED, told, spent, "The server grants permissions, and no channels: see its log. Data goes by "
+    why = "see its log" if said is not None else "see its log, or a firewall on the way that looks into TURN drops the request"
+    return Step("channel", Outcome.FAILED, told, spent, f"The server grants permissions, and no channels: {why}. Data goes by "
                 "messages of 36 bytes of header then, in place of 4.", facts_of(said))
 
 

@@ -36,6 +36,8 @@ class Step:
     advice: str = ""
     """what is wrong, and what to do"""
     facts: Facts = field(default_factory=dict)
+    table: Sequence[Sequence[str]] = ()
+    """rows of words, the headings first, for people"""
 
 
 def printable(text: str) -> str:

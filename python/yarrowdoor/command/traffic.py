@@ -16,9 +16,11 @@ from ..errors import Ended, Refused
 from .exchange import Exchange
 from .steps import Facts, Outcome, Step
 
-__all__ = ["Echoes", "Flight", "LAST_WAIT", "Trip", "echo_step", "first_sizes", "measure", "payload_step", "send_all", "send_back"]
+__all__ = [
+    "Echoes", "FAR", "Flight", "LAST_WAIT", "Trip", "echo_step", "first_sizes", "measure", "payload_step", "send_all", "send_back",
+]
 
-# A packet begins with what tells it from those of others, and its number.
+# A packet begins with a mark that no other sender uses, and its number.
 _HEAD = struct.Struct("!8sI")
 # How long the last packet is waited for at least, in seconds, and for how many round trips of a request.
 LAST_WAIT, _TRIPS = 1.0, 4
@@ -35,8 +37,10 @@ _KNOWN, _TAIL = 10, 0.7
 _DOUBTFUL, _MORE = 3, 3
 # Where more than this part is lost, few small packets tell a limit of rate from loss: so many, and the pause after each.
 _MANY, _FEW, _SLOWLY = 0.25, 12, 0.1
+# Where nothing comes back so few do, after a pause of so many seconds.
+_TRICKLE, _REST = 3, 0.3
 # With round trips that are longer than this, in seconds, the longest payload is not looked for in further rounds.
-_FAR = 0.1
+FAR = 0.1
 # What WebRTC and QUIC expect to pass, in bytes.
 _USUAL = 1200
 
@@ -183,7 +187,7 @@ def echo_step(trip: Trip, way: str, flight: Flight, told: Callable[[int], None],
         found, passed = _measure(trip, count, size, probes, pause, told, wait)
         if _DOUBTFUL <= found.lost <= _MANY * count:
             found += measure(trip, _MORE * count, size, pause, lambda number: None, wait)
-        is_limited = 0 < len(found.times) < (1 - _MANY) * count and _passes_slowly(trip)
+        is_limited = len(found.times) < (1 - _MANY) * count and (_passes_slowly(trip) if found.times else _trickles(trip, wait))
     except (Ended, Refused) as refusal:
         said, spent = f"nothing can be sent: {refusal}", time.monotonic() - begun
         return Step(way, Outcome.FAILED, said, spent, "What the server had granted has ended."), passed
@@ -193,8 +197,16 @@ def echo_step(trip: Trip, way: str, flight: Flight, told: Callable[[int], None],
 
 def _judged(trip: Trip, way: str, found: Echoes, max_loss: float, is_limited: bool) -> Step:
     """The step of packets of which so many came back."""
-    if not found.times:
-        return Step(way, Outcome.FAILED, str(found), 0.0, _nothing(trip), found.facts())
+    if not found.times and not is_limited:
+        told = _nothing(trip) if way == "messages" else (
+            "Messages pass, and nothing comes back by channels: a firewall on the way that looks into TURN, or the server, drops "
+            "ChannelData messages (RFC 8656, section 12.4).")
+        return Step(way, Outcome.FAILED, str(found), 0.0, told, found.facts())
+    if is_limited and trip.sender.wire.is_stream:
+        told = (f"Of {found.sent} packets {found.lost} did not come in time, and all do when they come slowly: the network on the "
+                "way loses packets, for which a stream waits (TCP), or it, or the server, limits the rate (coturn: max-bps=, "
+                "bps-capacity=).")
+        return Step(way, Outcome.FAILED, str(found), 0.0, told, {**found.facts(), "is_limited": True})
     if is_limited:
         told = (f"Of {found.sent} packets {found.lost} are lost when they come fast, and none when they come slowly: a limit of "
                 f"rate, "
@@ -215,13 +227,24 @@ def _judged(trip: Trip, way: str, found: Echoes, max_loss: float, is_limited: bo
     if found.lost:
         lost = (f"{found.crossing:.1f} % are lost at each of the {CROSSINGS} crossings between here and the server, of which "
                 f"{max_loss:g} % are taken as usual (--max-loss).")
-    return Step(way, Outcome.OK, str(found), 0.0, lost, found.facts())
+    resent = sum(it.count_resent() for it in trip.all)
+    if resent < _DOUBTFUL:
+        return Step(way, Outcome.OK, str(found), 0.0, lost, found.facts())
+    told = (f"TCP has sent {resent} packets again from here, which the network on the way has lost: what follows them waits that "
+            "long.")
+    return Step(way, Outcome.OK, str(found), 0.0, told, {**found.facts(), "resent": resent})
 
 
 def _passes_slowly(trip: Trip) -> bool:
     """Whether small packets with long pauses all come back, after a second in which none is sent."""
     trip.drive(lambda: any(it.is_over for it in trip.all), 1.0)
     return measure(trip, _FEW, _HEAD.size, _SLOWLY, lambda number: None).lost == 0
+
+
+def _trickles(trip: Trip, wait: float) -> bool:
+    """The same where no packet came back, with less of it: a limit of rate that lets little pass may drop each of many."""
+    trip.drive(lambda: any(it.is_over for it in trip.all), _REST)
+    return measure(trip, _TRICKLE, _HEAD.size, _SLOWLY, lambda number: None, wait / 2).lost == 0
 
 
 def _nothing(trip: Trip) -> str:
@@ -241,7 +264,7 @@ def first_sizes(most: int) -> List[int]:
 def payload_step(trip: Trip, most: int, wait: float, back: Optional[Set[int]] = None) -> Step:
     """Looks for the longest payload that comes back, up to a limit in bytes. `back` are those of `first_sizes` that did already."""
     begun = time.monotonic()
-    is_far = trip.sender.round_trip(reasons.ALLOCATE) > _FAR
+    is_far = trip.sender.round_trip(reasons.ALLOCATE) > FAR
     first = first_sizes(most)
     passed, failed = _narrow(trip, first, 0, most + 1, wait) if back is None else _narrowed(first, back, 0, most + 1)
     if passed == _SIZES[-1] < most and not is_far:
