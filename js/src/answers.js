@@ -8,8 +8,9 @@ import { timeAt } from "./time.js";
 /** @typedef {"udp" | "tcp"} Transport */
 
 /**
- * Nothing is due before `until`. Any other call may make it earlier.
- * @typedef {{ kind: "wait-until", until: Time }} WaitUntil
+ * Nothing is due before `until`, which is in the unit of the time that was passed in. Any other call may make it earlier.
+ * @template {Time} [T=Time]
+ * @typedef {{ kind: "wait-until", until: import("./time.js").UnitOf<T> }} WaitUntil
  */
 /**
  * Open a connection to `remote` for data of `peer`, and pass it to `allocatedTcpSocket`.
@@ -26,7 +27,8 @@ import { timeAt } from "./time.js";
  */
 /**
  * What is to be done next.
- * @typedef {WaitUntil | AllocateTcpSocket | TcpClose | Closed} Poll
+ * @template {Time} [T=Time]
+ * @typedef {WaitUntil<T> | AllocateTcpSocket | TcpClose | Closed} Poll
  */
 
 /**
@@ -110,11 +112,12 @@ export function transportAt(view, answer) {
 }
 
 /**
+ * @template {Time} T
  * @param {number} kind
  * @param {DataView} view
  * @param {number} answer
- * @param {Time} now
- * @returns {Poll}
+ * @param {T} now
+ * @returns {Poll<T>}
  */
 export function pollOf(kind, view, answer, now) {
     if (kind === KIND.WAIT_UNTIL) {
@@ -163,7 +166,7 @@ export function eventOf(kind, view, answer) {
  * @returns {PiecedData}
  */
 export function dataOf(calls) {
-    const { view, answer } = calls.library, peer = addressAt(view, answer + ANSWER.PEER), transport = transportAt(view, answer);
+    const { view, answer } = calls.module, peer = addressAt(view, answer + ANSWER.PEER), transport = transportAt(view, answer);
     return { kind: "peer-data", data: calls.fetched(), peer, transport, start: undefined };
 }
 

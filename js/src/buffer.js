@@ -1,14 +1,20 @@
 // Memory of the module that the caller fills and reads, so that calls copy nothing.
-const DISPOSE = /** @type {{ dispose?: symbol }} */ (Symbol).dispose ?? Symbol.for("Symbol.dispose");
+import { DISPOSE } from "./dispose.js";
+
 const EMPTY = new Uint8Array();
 /** A memory of 32 bits has no more. */
 const MOST = 2 ** 31 - 1;
+/** @type {(buffer: unknown, module: Module) => buffer is ModuleBuffer} */
+let liesIn;
+
+/** @typedef {import("./module.js").Module} Module */
 
 /**
  * A buffer in the memory of a library. `recvFrom` and `sendFrom` take what lies in it, and `sendFrom` writes into one. It is kept
  * until `free`, also where nothing refers to it.
  */
 export class ModuleBuffer {
+    #module;
     #held = { client: 0, block: 0 };
     #bytes = EMPTY;
     /** Where it begins in the memory of its library. */
@@ -16,17 +22,22 @@ export class ModuleBuffer {
     /** How many bytes it has: none after `free`. */
     length = 0;
 
+    static {
+        liesIn = /** @type {typeof liesIn} */ (
+            (buffer, module) => buffer instanceof ModuleBuffer && #module in buffer && buffer.#module === module);
+    }
+
     /**
-     * RangeError where the length is none, OutOfMemory.
-     * @param {import("./library.js").Library} library
+     * Use `client.buffer(length)` or `library.buffer(length)`. RangeError where the length is none, OutOfMemory.
+     * @param {Module} module
      * @param {number} length
      */
-    constructor(library, length) {
+    constructor(module, length) {
         if (!Number.isInteger(length) || length < 0 || length > MOST) {
             throw new RangeError(`a buffer has a length from 0 to ${MOST}, and not ${String(length)}`);
         }
-        this.library = library;
-        this.place = this.#held.block = library.alloc(length);
+        this.#module = module;
+        this.place = this.#held.block = module.alloc(length);
         this.length = length;
     }
 
@@ -35,7 +46,7 @@ export class ModuleBuffer {
      * @returns {Uint8Array}
      */
     get bytes() {
-        const { buffer } = this.library.bytes;
+        const { buffer } = this.#module.bytes;
         if (this.#bytes.buffer !== buffer) {
             this.#bytes = this.#held.block === 0 ? EMPTY : new Uint8Array(buffer, this.place, this.length);
         }
@@ -44,26 +55,27 @@ export class ModuleBuffer {
 
     /** Gives the memory back. Bytes that were taken of it before are another's then, and not to be used. */
     free() {
-        this.library.free(this.#held);
+        this.#module.free(this.#held);
         this.place = this.length = 0;
         this.#bytes = EMPTY;
     }
 
+    /** The same as `free`, for `using`. */
     [DISPOSE]() {
         this.free();
     }
 }
 
 /**
- * The place of a part of a buffer. TypeError where it is no buffer of this library, RangeError where it has no such part.
+ * The place of a part of a buffer. TypeError where it is no buffer of this module, RangeError where it has no such part.
  * @param {ModuleBuffer} buffer
- * @param {import("./library.js").Library} library
+ * @param {Module} module
  * @param {number} offset
  * @param {number} length
  * @param {string} name
  */
-export function partOf(buffer, library, offset, length, name) {
-    if (!(buffer instanceof ModuleBuffer) || buffer.library !== library) {
+export function partOf(buffer, module, offset, length, name) {
+    if (!liesIn(buffer, module)) {
         throw noBuffer(name);
     }
     if (offset >>> 0 !== offset || length >>> 0 !== length || offset + length > buffer.length) {

@@ -37,36 +37,36 @@ export class Calls {
     /**
      * Makes the client. TypeError, RangeError, OutOfMemory.
      * @param {import("./settings.js").Settings} settings
-     * @param {import("./library.js").Library} library
+     * @param {import("./module.js").Module} module
      */
-    constructor(settings, library) {
-        const block = library.alloc(KEPT.length * SIZE.REQUEST);
-        this.library = library;
-        /** @type {import("./library.js").Held} */
+    constructor(settings, module) {
+        const block = module.alloc(KEPT.length * SIZE.REQUEST);
+        this.module = module;
+        /** @type {import("./module.js").Held} */
         this.held = { client: 0, block };
-        this.#requests = makeRequests(library, block);
+        this.#requests = makeRequests(module, block);
         try {
-            const { user, password, seed, isStream, relay } = putSettings(library, settings), { view, settings: at } = library;
+            const { user, password, seed, isStream, relay } = putSettings(module, settings), { view, settings: at } = module;
             this.isStream = isStream;
             this.relay = relay;
             /** The addresses of its own socket. */
             this.local = addressAt(view, at + SETTINGS.LOCAL);
             this.remote = addressAt(view, at + SETTINGS.REMOTE);
             this.#putOwn();
-            const { kind, client } = library.make(user, password, seed);
+            const { kind, client } = module.make(user, password, seed);
             if (kind !== 0) {
                 throw kind === KIND.OUT_OF_MEMORY ? new OutOfMemory() : new RangeError(`the settings are refused (${kind})`);
             }
             this.held.client = client;
         } catch (error) {
-            library.dealloc(block);
+            module.dealloc(block);
             throw error;
         }
     }
 
     /** Writes what the requests for data have in common. */
     #putOwn() {
-        const [recv, send] = [this.#requests[CALL.RECV], this.#requests[CALL.SEND_TO]], { view } = this.library;
+        const [recv, send] = [this.#requests[CALL.RECV], this.#requests[CALL.SEND_TO]], { view } = this.module;
         view.setUint32(recv + REQUEST.TRANSPORT, this.isStream ? TRANSPORT.tcp : TRANSPORT.udp, true);
         this.#putAddress(recv + REQUEST.FROM, this.remote, "remote");
         this.#putAddress(recv + REQUEST.TO, this.local, "local");
@@ -82,17 +82,18 @@ export class Calls {
     }
 
     /**
-     * Makes a call whose answer has bytes, into `library.outputOf(MAX_PACKET)`.
+     * Makes a call whose answer has bytes, into `module.outputOf(MAX_PACKET)`.
      * @param {number} call
      * @param {Time} now
      */
     fetch(call, now) {
-        return this.#call(this.#requests[call], now, 0, 0, this.library.outputOf(MAX_PACKET).place, MAX_PACKET);
+        const request = this.#requests[call] ?? this.#fill(call);
+        return this.#call(request, now, 0, 0, this.module.outputOf(MAX_PACKET).place, MAX_PACKET);
     }
 
     /** The bytes of the last answer, with those that did not fit. */
     fetched() {
-        return this.library.takeBytes(this.held, this.#requests[CALL.READ], this.library.outputOf(MAX_PACKET).place, MAX_PACKET);
+        return this.module.takeBytes(this.held, this.#requests[CALL.READ], this.module.outputOf(MAX_PACKET).place, MAX_PACKET);
     }
 
     /**
@@ -117,7 +118,7 @@ export class Calls {
      * @param {{ transport?: Transport, remote?: AddressLike, local?: AddressLike } | undefined} from
      */
     #recvOtherwise(place, len, now, from) {
-        const { library, isStream } = this, buffer = isStream ? library.outputOf(MAX_PACKET).place : 0;
+        const { module, isStream } = this, buffer = isStream ? module.outputOf(MAX_PACKET).place : 0;
         let request = this.#requests[CALL.RECV];
         if (from) {
             const { transport = isStream ? "tcp" : "udp", remote = this.remote, local = this.local } = from;
@@ -176,7 +177,7 @@ export class Calls {
      * @param {Fields} fields
      */
     look(kind, fields) {
-        return this.#checked(this.library.look(this.held, this.#fill(kind, fields)), 0n);
+        return this.#checked(this.module.look(this.held, this.#fill(kind, fields)), 0n);
     }
 
     /**
@@ -185,7 +186,7 @@ export class Calls {
      * @param {Fields} fields
      */
     #fill(kind, { id = 0, transport, ...addresses } = {}) {
-        const { bytes, view } = this.library, request = this.#requests[OTHER];
+        const { bytes, view } = this.module, request = this.#requests[OTHER];
         bytes.fill(0, request, request + SIZE.REQUEST);
         view.setUint32(request + REQUEST.KIND, kind, true);
         view.setUint32(request + REQUEST.ID, id, true);
@@ -207,7 +208,7 @@ export class Calls {
      * @param {string} name
      */
     #putAddress(place, address, name) {
-        putAddress(this.library.bytes, this.library.view, place, address, name);
+        putAddress(this.module.bytes, this.module.view, place, address, name);
     }
 
     /**
@@ -220,8 +221,8 @@ export class Calls {
      * @param {number} room
      */
     #call(request, now, place, len, buffer, room) {
-        const { library } = this, nanoseconds = passTime(library.view, request, now);
-        return this.#checked(library.call(this.held, request, nanoseconds, place, len, buffer, room), now);
+        const { module } = this, nanoseconds = passTime(module.view, request, now);
+        return this.#checked(module.call(this.held, request, nanoseconds, place, len, buffer, room), now);
     }
 
     /**
@@ -241,7 +242,7 @@ export class Calls {
      * @param {Time} now
      */
     #errorOf(kind, now) {
-        const { view, answer } = this.library;
+        const { view, answer } = this.module;
         switch (kind) {
             case KIND.REFUSED:
                 return new Refused(REASONS[view.getUint32(answer + ANSWER.ERROR, true)], timeAt(view, answer + ANSWER.TIME, now));
@@ -254,16 +255,16 @@ export class Calls {
 
 /**
  * Writes the requests that a client keeps, and gives their places by their calls.
- * @param {import("./library.js").Library} library
+ * @param {import("./module.js").Module} module
  * @param {number} block
  */
-function makeRequests(library, block) {
+function makeRequests(module, block) {
     /** @type {number[]} */
     const places = Array(CALL.READ + 1).fill(0);
-    library.bytes.fill(0, block, block + KEPT.length * SIZE.REQUEST);
+    module.bytes.fill(0, block, block + KEPT.length * SIZE.REQUEST);
     KEPT.forEach((kind, at) => {
         places[kind] = block + at * SIZE.REQUEST;
-        library.view.setUint32(places[kind] + REQUEST.KIND, kind, true);
+        module.view.setUint32(places[kind] + REQUEST.KIND, kind, true);
     });
     return places;
 }

@@ -4,8 +4,9 @@ import { dataOf, eventOf, icmpAt, pollOf, transportAt } from "./answers.js";
 import { checkApart, partOf } from "./buffer.js";
 import { checkBytes, taken } from "./bytes.js";
 import { Calls, hostOf } from "./calls.js";
+import { DISPOSE } from "./dispose.js";
 import { ANSWER, CALL, KIND, MAX_OVERHEAD, TRANSPORTS } from "./layout.js";
-import { Library } from "./library.js";
+import { Library, moduleOf } from "./library.js";
 import { DataInBuffer, PacketInBuffer } from "./places.js";
 
 /** @typedef {import("./address.js").Address} Address */
@@ -13,8 +14,6 @@ import { DataInBuffer, PacketInBuffer } from "./places.js";
 /** @typedef {import("./answers.js").Transport} Transport */
 /** @typedef {import("./time.js").Time} Time */
 
-/** The engine's symbol for `using`, where it has one. */
-const DISPOSE = /** @type {{ dispose?: symbol }} */ (Symbol).dispose ?? Symbol.for("Symbol.dispose");
 /** @type {import("./answers.js").Handled} */
 const HANDLED = Object.freeze({ kind: "handled" });
 /** @type {import("./answers.js").Ignored} */
@@ -58,15 +57,17 @@ export class Client {
         if (!(library instanceof Library)) {
             throw new TypeError("a client needs a library: new Client(settings, await Library.load()), or await Client.create(settings)");
         }
-        this.#calls = new Calls(settings, library);
-        library.watch(this, this.#calls.held);
+        const module = moduleOf(library);
+        this.#calls = new Calls(settings, module);
+        module.watch(this, this.#calls.held);
     }
 
     /** Frees the client. It sends nothing: `delete` gives the allocation back to the server before. Later calls are `Ended`. */
     close() {
-        this.#calls.library.free(this.#calls.held);
+        this.#calls.module.free(this.#calls.held);
     }
 
+    /** The same as `close`, for `using`. */
     [DISPOSE]() {
         this.close();
     }
@@ -74,12 +75,13 @@ export class Client {
     // What is due
 
     /**
-     * What is to be done next. While an event is to be polled, it is to wait until `now`.
-     * @param {Time} now
-     * @returns {import("./answers.js").Poll}
+     * What is to be done next. While an event is to be polled, it is to wait until `now`. `until` is in the unit of `now`.
+     * @template {Time} T
+     * @param {T} now
+     * @returns {import("./answers.js").Poll<T>}
      */
     poll(now) {
-        const kind = this.#calls.poll(now), { view, answer } = this.#calls.library;
+        const kind = this.#calls.poll(now), { view, answer } = this.#calls.module;
         return pollOf(kind, view, answer, now);
     }
 
@@ -89,7 +91,17 @@ export class Client {
      * @returns {import("./answers.js").Packet | undefined}
      */
     pollTransmit(now) {
-        if (this.#calls.fetch(CALL.POLL_TRANSMIT, now) !== KIND.PACKET) {
+        return this.#packetOf(CALL.POLL_TRANSMIT, now);
+    }
+
+    /**
+     * The packet that a call gives, if it gives one.
+     * @param {number} call
+     * @param {Time} now
+     * @returns {import("./answers.js").Packet | undefined}
+     */
+    #packetOf(call, now) {
+        if (this.#calls.fetch(call, now) !== KIND.PACKET) {
             return undefined;
         }
         const { transport, local, remote } = this.#way();
@@ -98,7 +110,7 @@ export class Client {
 
     /** What a packet says of its way. */
     #way() {
-        const { view, answer } = this.#calls.library;
+        const { view, answer } = this.#calls.module;
         const [local, remote] = [ANSWER.FROM, ANSWER.TO].map((at) => addressAt(view, answer + at));
         return { transport: transportAt(view, answer), local, remote };
     }
@@ -119,7 +131,7 @@ export class Client {
      * @returns {import("./answers.js").Event | undefined}
      */
     pollEvent() {
-        const kind = this.#calls.ask(CALL.POLL_EVENT, 0n), { view, answer } = this.#calls.library;
+        const kind = this.#calls.ask(CALL.POLL_EVENT, 0n), { view, answer } = this.#calls.module;
         return eventOf(kind, view, answer);
     }
 
@@ -148,12 +160,12 @@ export class Client {
      */
     recv(data, now, from) {
         checkBytes(data);
-        const { library } = this.#calls, isThere = data.buffer === library.bytes.buffer, place = library.put(data);
+        const { module } = this.#calls, isThere = data.buffer === module.bytes.buffer, place = module.put(data);
         const kind = this.#calls.recv(place, data.length, now, from);
         if (kind !== KIND.PEER_DATA_RANGE) {
             return this.#withoutRange(kind);
         }
-        const { view, answer, bytes } = library;
+        const { view, answer, bytes } = module;
         const start = view.getUint32(answer + ANSWER.START, true), end = start + view.getUint32(answer + ANSWER.LEN, true);
         const found = isThere ? new Uint8Array(bytes.buffer, place + start, end - start) : data.subarray(start, end);
         const peer = this.#calls.peers.at(view, answer + ANSWER.PEER);
@@ -165,7 +177,7 @@ export class Client {
      * @param {number} kind
      */
     #withoutRange(kind) {
-        const { view, answer } = this.#calls.library;
+        const { view, answer } = this.#calls.module;
         switch (kind) {
             case KIND.HANDLED: return HANDLED;
             case KIND.IGNORED: return IGNORED;
@@ -180,7 +192,7 @@ export class Client {
      * @param {number} length
      */
     buffer(length) {
-        return this.#calls.library.buffer(length);
+        return this.#calls.module.buffer(length);
     }
 
     /**
@@ -194,12 +206,12 @@ export class Client {
      * @returns {import("./answers.js").ReceivedInBuffer}
      */
     recvFrom(buffer, offset, length, now, from) {
-        const calls = this.#calls, { library } = calls, place = partOf(buffer, library, offset, length, "buffer");
+        const calls = this.#calls, { module } = calls, place = partOf(buffer, module, offset, length, "buffer");
         const kind = calls.recv(place, length, now, from);
         if (kind !== KIND.PEER_DATA_RANGE) {
             return this.#withoutRange(kind);
         }
-        const { view, answer } = library, start = offset + view.getUint32(answer + ANSWER.START, true);
+        const { view, answer } = module, start = offset + view.getUint32(answer + ANSWER.START, true);
         const peer = calls.peers.at(view, answer + ANSWER.PEER), received = (this.#received ??= new DataInBuffer(buffer, peer));
         return received.set(buffer, start, view.getUint32(answer + ANSWER.LEN, true), peer, transportAt(view, answer));
     }
@@ -225,16 +237,16 @@ export class Client {
      */
     sendTo(peer, data, now, { transport, into } = {}) {
         checkBytes(data);
-        const { library, isStream, local, remote } = this.#calls, room = data.length + MAX_OVERHEAD;
+        const { module, isStream, local, remote } = this.#calls, room = data.length + MAX_OVERHEAD;
         if (into !== undefined && !(into instanceof Uint8Array && into.length >= room)) {
             throw new RangeError(`into is a Uint8Array with ${room} bytes or more`);
         }
-        const { length } = data, place = library.put(data), isThere = into !== undefined && into.buffer === library.bytes.buffer;
-        const buffer = isThere ? into.byteOffset : library.outputOf(room).place; // where this lets the memory grow, data is empty
+        const { length } = data, place = module.put(data), isThere = into !== undefined && into.buffer === module.bytes.buffer;
+        const buffer = isThere ? into.byteOffset : module.outputOf(room).place; // where this lets the memory grow, data is empty
         checkApart(place, length, buffer, room);
         this.#calls.sendTo(peer, place, length, buffer, now, transport);
-        const end = buffer + library.view.getUint32(library.answer + ANSWER.LEN, true);
-        const found = new Uint8Array(library.bytes.buffer, buffer, end - buffer), bytes = isThere ? found : taken(found, into);
+        const end = buffer + module.view.getUint32(module.answer + ANSWER.LEN, true);
+        const found = new Uint8Array(module.bytes.buffer, buffer, end - buffer), bytes = isThere ? found : taken(found, into);
         return isStream ? { data: bytes, ...this.#way() } : { data: bytes, transport: "udp", local, remote };
     }
 
@@ -250,8 +262,8 @@ export class Client {
      * @param {Transport} [transport]
      */
     sendFrom(peer, buffer, offset, length, now, into, transport) {
-        const calls = this.#calls, { library } = calls, place = partOf(buffer, library, offset, length, "buffer");
-        const room = length + MAX_OVERHEAD, to = partOf(into, library, 0, room, "into");
+        const calls = this.#calls, { module } = calls, place = partOf(buffer, module, offset, length, "buffer");
+        const room = length + MAX_OVERHEAD, to = partOf(into, module, 0, room, "into");
         checkApart(place, length, to, room);
         calls.sendTo(peer, place, length, to, now, transport);
         const sent = (this.#sent ??= new PacketInBuffer(into, calls.local, calls.remote));
@@ -259,7 +271,7 @@ export class Client {
             const way = this.#way();
             sent.setWay(way.transport, way.local, way.remote);
         }
-        return sent.set(into, library.view.getUint32(library.answer + ANSWER.LEN, true));
+        return sent.set(into, module.view.getUint32(module.answer + ANSWER.LEN, true));
     }
 
     // Requests
@@ -351,6 +363,17 @@ export class Client {
     }
 
     /**
+     * Ends the client at once, for a caller that closes its socket right away. The packet that it gives deletes the allocation (RFC
+     * 8656, section 8), past the pause and past what waits to be sent: send it, and wait for no answer. Undefined where nothing was
+     * granted, or it had ended. `OutOfMemory`: nothing has changed. One that waits for the answer calls `delete`.
+     * @param {Time} now
+     * @returns {import("./answers.js").Packet | undefined}
+     */
+    abandon(now) {
+        return this.#packetOf(CALL.ABANDON, now);
+    }
+
+    /**
      * Reports an error of a layer between client and server, as TLS: each family that is still requested fails, and the client has
      * ended.
      */
@@ -399,7 +422,7 @@ export class Client {
     #list(kind, fields, make) {
         const found = [];
         while (this.#calls.look(kind, { ...fields, id: found.length }) === KIND.ADDRESS) {
-            found.push(make(this.#calls.library.view, this.#calls.library.answer));
+            found.push(make(this.#calls.module.view, this.#calls.module.answer));
         }
         return found;
     }

@@ -1,4 +1,4 @@
-// The errors of the package, by name. All of them are a YarrowdoorError, and have a reason.
+// The errors of the package, by name. All of them are a YarrowdoorError, and have a reason and a code.
 
 /**
  * What an error response said: its code, and its words.
@@ -17,6 +17,8 @@ export class YarrowdoorError extends Error {
         this.name = new.target.name;
         /** Why, in a word that stays the same. */
         this.reason = reason;
+        /** The same as Node's errors have it: `ERR_TURN_PERMISSION_FAILED` of `permission-failed`. */
+        this.code = `ERR_TURN_${reason.toUpperCase().replaceAll("-", "_")}`;
         if (cause !== undefined) {
             /**
              * What it comes from, as the error of a socket.
@@ -85,7 +87,7 @@ export class Ended extends YarrowdoorError {
 }
 
 /**
- * An error of the server. `code` and `phrase` are what an error response said, if one was seen. Nobody has to have signed that
+ * An error of the server. `errorCode` and `phrase` are what an error response said, if one was seen. Nobody has to have signed that
  * response, so it is a hint: anyone who knows the addresses can send such a packet.
  */
 export class ServerError extends YarrowdoorError {
@@ -97,8 +99,8 @@ export class ServerError extends YarrowdoorError {
      */
     constructor(reason, message, hint, cause) {
         super(reason, hint ? `${message} (${`${hint.code} ${hint.phrase}`.trim()})` : message, cause);
-        /** The number of the error response (RFC 8656, section 19; RFC 8489, section 14.8). */
-        this.code = hint?.code;
+        /** The number of the error response (RFC 8656, section 19; RFC 8489, section 14.8), by the name that WebRTC has for it. */
+        this.errorCode = hint?.code;
         /** The server's words for it, for people to read. They may be empty. */
         this.phrase = hint?.phrase ?? "";
     }
@@ -118,8 +120,8 @@ export class AllocationFailed extends ServerError {
 }
 
 /**
- * The server gives no relayed address, and a packet said that user name or password are wrong: `wrong-credentials`. `code` is 401,
- * or 400 with some servers.
+ * The server gives no relayed address, and a packet said that user name or password are wrong: `wrong-credentials`. `errorCode` is
+ * 401, or 400 with some servers.
  */
 export class WrongCredentials extends AllocationFailed {
     /**
@@ -150,5 +152,20 @@ export class ChannelFailed extends ServerError {
      */
     constructor(message, hint) {
         super("channel-failed", message, hint);
+    }
+}
+
+/**
+ * There is no connection to the peer over TCP (RFC 6062, section 4.3): the peer refuses it, the server does, or did not answer, or
+ * there is no data connection to the server: `connect-failed`.
+ */
+export class ConnectFailed extends ServerError {
+    /**
+     * @param {string} message
+     * @param {Hint | undefined} [hint]
+     * @param {unknown} [cause]
+     */
+    constructor(message, hint, cause) {
+        super("connect-failed", message, hint, cause);
     }
 }

@@ -14,7 +14,7 @@ export const KIND = Object.freeze({
 export const CALL = Object.freeze({
     DELETE: 1, CREATE_PERMISSION: 2, BIND_CHANNEL: 3, TCP_CONNECT: 4, ALLOCATED_TCP_SOCKET: 5, TCP_CLOSED: 6, SEND_TO: 7, RECV: 8,
     POLL_RECV: 9, POLL: 10, POLL_TRANSMIT: 11, POLL_EVENT: 12, PROTOCOL_ERROR: 13, RELAYED_ADDRESSES: 14, PERMISSIONS: 15,
-    HAVE_PERMISSION: 16, READ: 17, SET_PERMISSION_KEPT: 18, SET_CHANNEL_KEPT: 19, SEND_HEAD: 20,
+    HAVE_PERMISSION: 16, READ: 17, SET_PERMISSION_KEPT: 18, SET_CHANNEL_KEPT: 19, SEND_HEAD: 20, ABANDON: 21,
 });
 
 /** The reasons of a refusal, by their numbers from 1 on. */
@@ -29,7 +29,7 @@ export const REASONS = Object.freeze([
 export const TRANSPORTS = ["udp", "tcp"];
 
 /** Bytes of each struct. */
-export const SIZE = Object.freeze({ ADDRESS: 28, SETTINGS: 160, REQUEST: 136, ANSWER: 160, MESSAGE: 112 });
+export const SIZE = Object.freeze({ ADDRESS: 28, SETTINGS: 160, REQUEST: 136, ANSWER: 160, MESSAGE: 112, LOAD: 24 });
 
 /** Places in an address. */
 export const ADDRESS = Object.freeze({ IP: 0, FLOW: 16, SCOPE: 20, PORT: 24, FAMILY: 26 });
@@ -55,6 +55,9 @@ export const MESSAGE = Object.freeze({
     LEN: 0, KIND: 8, METHOD: 12, MESSAGE_CLASS: 14, ID: 16, CHANNEL: 28, CODE: 30, REASON_AT: 32, REASON_LEN: 36, REALM_AT: 40,
     REALM_LEN: 44, MAPPED: 48, ALTERNATE: 76,
 });
+
+/** Places in what takes time beside refreshes. */
+export const LOAD = Object.freeze({ LATE: 0, DELAY: 8, SLOTS: 16, EXTRAS: 20 });
 
 /** A buffer of so many bytes holds each packet that is not data. */
 export const MAX_PACKET = 65_556;

@@ -1,8 +1,13 @@
 // Where the module comes from: a URL, a response, or bytes.
 
 /**
+ * What the module can be loaded from. Not each library of types has a name for a compiled module, which is an object as any.
+ * @typedef {ArrayBuffer | ArrayBufferView | URL | string | object} Source
+ */
+/** @typedef {ArrayBuffer | ArrayBufferView} Bytes */
+/**
  * Reads what a URL names, or a text, as `fetch` takes both.
- * @typedef {(source: URL | string) => Promise<BufferSource>} Reader
+ * @typedef {(source: URL | string) => Promise<Bytes>} Reader
  */
 
 /** @type {Reader} */
@@ -18,8 +23,8 @@ export function readBy(reader) {
 
 /**
  * The bytes of the module.
- * @param {BufferSource | Response | URL | string} source
- * @returns {Promise<BufferSource>}
+ * @param {Source} source
+ * @returns {Promise<Bytes>}
  */
 export async function bytesOf(source) {
     if (typeof source === "string" || source instanceof URL) {
@@ -31,7 +36,7 @@ export async function bytesOf(source) {
         }
         return source.arrayBuffer();
     }
-    return /** @type {BufferSource} */ (source);
+    return /** @type {Bytes} */ (source);
 }
 
 /**

@@ -1,6 +1,7 @@
 // What packets say beside what a client answers: error codes, the mapped address, who asked for what.
 import { addressAt, isAddressAt } from "./address.js";
 import { KIND, MESSAGE } from "./layout.js";
+import { moduleOf } from "./library.js";
 import { TRANSPORT, numberOf } from "./settings.js";
 
 /** @typedef {"request" | "indication" | "success" | "error"} MessageClass */
@@ -33,19 +34,19 @@ const CLASSES = Object.freeze(["request", "indication", "success", "error"]);
  * @returns {Message | ChannelData | NoFrame | undefined}
  */
 export function parse(library, data, transport = "udp") {
-    const way = numberOf(TRANSPORT, transport, "transport"), place = library.put(data);
-    const kind = library.readMessage(way, place, data.length), { view, message: at } = library;
+    const module = moduleOf(library), way = numberOf(TRANSPORT, transport, "transport"), place = module.put(data);
+    const kind = module.readMessage(way, place, data.length), { view, message: at } = module;
     const len = view.getUint32(at + MESSAGE.LEN, true);
     switch (kind) {
         case KIND.NOTHING: return undefined;
         case KIND.CHANNEL_DATA: return { kind: "channel-data", len, channel: view.getUint16(at + MESSAGE.CHANNEL, true) };
-        case KIND.MESSAGE: return messageAt(library, data, len);
+        case KIND.MESSAGE: return messageAt(module, data, len);
         default: return { kind: "no-frame" };
     }
 }
 
 /**
- * @param {import("./library.js").Library} library
+ * @param {import("./module.js").Module} module
  * @param {Uint8Array} data
  * @param {number} len
  * @returns {Message}
@@ -80,11 +81,12 @@ export function attribute(library, data, type) {
     if (!Number.isInteger(type) || type < 0 || type > 0xffff) {
         throw new RangeError(`type is a number of 16 bits, and not ${String(type)}`);
     }
-    if (library.readAttribute(library.put(data), data.length, type) !== KIND.YES) {
+    const module = moduleOf(library);
+    if (module.readAttribute(module.put(data), data.length, type) !== KIND.YES) {
         return undefined;
     }
-    const start = library.view.getUint32(library.pair, true);
-    return data.slice(start, start + library.view.getUint32(library.pair + 4, true));
+    const start = module.view.getUint32(module.pair, true);
+    return data.slice(start, start + module.view.getUint32(module.pair + 4, true));
 }
 
 /**

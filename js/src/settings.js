@@ -1,6 +1,7 @@
 // What a new client is and does: the settings, checked, and as the library has them.
 import { putAddress } from "./address.js";
-import { NO_PAUSE, SEED_LEN, SETTINGS, SIZE } from "./layout.js";
+import { putAhead, putPause } from "./kept.js";
+import { SEED_LEN, SETTINGS, SIZE } from "./layout.js";
 import { randomBytes } from "./random.js";
 import { putTime } from "./time.js";
 
@@ -98,12 +99,12 @@ function seedOf(given) {
 
 /**
  * Writes the settings, and gives the bytes beside them. TypeError and RangeError where one is none.
- * @param {import("./library.js").Library} library
+ * @param {import("./module.js").Module} module
  * @param {Settings} given
  */
-export function putSettings(library, given) {
+export function putSettings(module, given) {
     const user = credential(given.username, "username", 1, 508), password = credential(given.credential, "credential", 0, 65_535);
-    const seed = seedOf(given.seed), { settings: at, view, bytes } = library, { maxStaleNonces = 9, transport = "udp" } = given;
+    const seed = seedOf(given.seed), { settings: at, view, bytes } = module, { maxStaleNonces = 9, transport = "udp" } = given;
     if (!Number.isInteger(maxStaleNonces) || maxStaleNonces < 1 || maxStaleNonces > 65_535) {
         throw new RangeError(`maxStaleNonces is a number from 1 to 65535, and not ${String(maxStaleNonces)}`);
     }
@@ -130,15 +131,9 @@ export function putSettings(library, given) {
  * @param {Settings} given
  */
 function putPauses(view, at, { pause = 50, keepalive = 0, refreshAhead = 60_000 }) {
-    putTime(view, at + SETTINGS.REQUEST_CADENCE, pause, "pause");
-    if (Number(pause) === 0) {
-        view.setBigUint64(at + SETTINGS.REQUEST_CADENCE, NO_PAUSE, true);
-    }
+    putPause(view, at + SETTINGS.REQUEST_CADENCE, pause);
     putTime(view, at + SETTINGS.KEEPALIVE, keepalive, "keepalive");
-    putTime(view, at + SETTINGS.REFRESH_AHEAD, refreshAhead, "refreshAhead");
-    if (Number(refreshAhead) === 0) {
-        view.setBigUint64(at + SETTINGS.REFRESH_AHEAD, 1n, true);
-    }
+    putAhead(view, at + SETTINGS.REFRESH_AHEAD, refreshAhead);
 }
 
 /**

@@ -6,6 +6,12 @@
  * @typedef {number | bigint} Time
  */
 
+/**
+ * The unit of a time, in which a call answers: milliseconds or nanoseconds.
+ * @template {Time} T
+ * @typedef {T extends bigint ? bigint : number} UnitOf
+ */
+
 const NANOSECONDS = 1e6, HIGH = 2 ** 32, EXACT = 2 ** 53, MOST = 2 ** 62;
 /** The same as a bigint, made once: a default value would be computed in each call. */
 const LATEST = 2n ** 62n;
@@ -55,15 +61,21 @@ export function passTime(view, place, time) {
 
 /**
  * Reads a time, in the unit of another one. In milliseconds it is not before the time that stands there.
+ * @template {Time} T
  * @param {DataView} view
  * @param {number} place
- * @param {Time} like
- * @returns {Time}
+ * @param {T} like
+ * @returns {UnitOf<T>}
  */
 export function timeAt(view, place, like) {
-    if (typeof like === "bigint") {
-        return view.getBigUint64(place, true);
-    }
+    return /** @type {UnitOf<T>} */ (typeof like === "bigint" ? view.getBigUint64(place, true) : millisecondsAt(view, place));
+}
+
+/**
+ * @param {DataView} view
+ * @param {number} place
+ */
+function millisecondsAt(view, place) {
     const nanoseconds = view.getUint32(place + 4, true) * HIGH + view.getUint32(place, true);
     return nanoseconds < EXACT ? milliseconds(nanoseconds) : milliseconds(above(view.getBigUint64(place, true)));
 }

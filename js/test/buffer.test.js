@@ -3,6 +3,7 @@ import assert from "node:assert/strict";
 import test from "node:test";
 import { LastAddress, putAddress } from "../src/address.js";
 import { ModuleBuffer } from "../src/index.js";
+import { moduleOf } from "../src/library.js";
 import { NOW, PEER, SERVER_ADDRESS, boundClient, channelData } from "./handshake.js";
 import { newLibrary } from "./module.js";
 
@@ -18,7 +19,7 @@ async function made() {
 /** Lets the memory of the module grow. */
 function grow(library) {
     const before = library.memorySize;
-    library.dealloc(library.alloc(before));
+    moduleOf(library).dealloc(moduleOf(library).alloc(before));
     assert.ok(library.memorySize > before);
 }
 
@@ -59,7 +60,7 @@ test("a part that a buffer does not have, another library's buffer and bytes tha
         assert.throws(() => client.recvFrom(input, offset, length, NOW), { name: "RangeError", message: /^buffer has 2048 bytes/ });
         assert.throws(() => client.sendFrom(PEER, input, offset, length, NOW, output), { name: "RangeError", message: /^buffer has 2048 bytes/ });
     });
-    [other, input.bytes, undefined, null, { place: input.place, length: 2_048, library: input.library }].forEach((wrong) => {
+    [other, input.bytes, undefined, null, { place: input.place, length: 2_048 }].forEach((wrong) => {
         assert.throws(() => client.recvFrom(wrong, 0, 5, NOW), { name: "TypeError", message: /^buffer is a buffer/ });
         assert.throws(() => client.sendFrom(PEER, input, 0, 5, NOW, wrong), { name: "TypeError", message: /^into is a buffer/ });
     });
@@ -70,12 +71,12 @@ test("a part that a buffer does not have, another library's buffer and bytes tha
 });
 
 test("a packet is not written over its own data", async () => {
-    const { client, library, input } = await made(), both = (place) => library.bytes.subarray(place, place + 100);
+    const { client, library, input } = await made(), { bytes } = moduleOf(library), both = (place) => bytes.subarray(place, place + 100);
     assert.throws(() => client.sendFrom(PEER, input, 20, 5, NOW, input), { name: "RangeError", message: /is to be written/ });
     assert.throws(() => client.sendFrom(PEER, input, 68, 5, NOW, input), RangeError);
     assert.equal(client.sendFrom(PEER, input, 69, 5, NOW, input).length, 12);
-    assert.throws(() => client.sendTo(PEER, both(input.place), NOW, { into: library.bytes.subarray(input.place + 99, input.place + 400) }), RangeError);
-    assert.equal(client.sendTo(PEER, both(input.place), NOW, { into: library.bytes.subarray(input.place + 100, input.place + 400) }).data.length, 104);
+    assert.throws(() => client.sendTo(PEER, both(input.place), NOW, { into: bytes.subarray(input.place + 99, input.place + 400) }), RangeError);
+    assert.equal(client.sendTo(PEER, both(input.place), NOW, { into: bytes.subarray(input.place + 100, input.place + 400) }).data.length, 104);
 });
 
 test("after the memory has grown a buffer has its bytes, and what was taken of it before is refused", async () => {
@@ -111,7 +112,7 @@ test("a buffer is freed once, and its memory is had again", async () => {
 test("bytes in the memory of the module are copied whole also where that grows for them", async () => {
     const { library } = await made(), long = library.buffer(3_000_000);
     long.bytes.fill(7);
-    const copy = library.inputOf(long.bytes);
+    const copy = moduleOf(library).inputOf(long.bytes);
     assert.notEqual(copy, long);
     assert.ok(copy.bytes.subarray(0, 3_000_000).every((byte) => byte === 7));
 });

@@ -5,6 +5,8 @@ import { setTimeout as pause } from "node:timers/promises";
 import { setFlagsFromString } from "node:v8";
 import { runInNewContext } from "node:vm";
 import { Client, Ended, Library, LibraryError, OutOfMemory, Refused, attribute, parse } from "../src/index.js";
+import { moduleOf } from "../src/library.js";
+import { Module } from "../src/module.js";
 import { timeAt } from "../src/time.js";
 import { LOCAL_ADDRESS, NOW, PEER, SERVER_ADDRESS, boundClient, channelData } from "./handshake.js";
 import { library, newLibrary, testLibrary } from "./module.js";
@@ -68,8 +70,8 @@ test("sending over a channel adds four bytes and padding, into bytes of its own 
 });
 
 test("bytes in the module's memory are taken and given where they lie", async () => {
-    const own = await newLibrary(), client = boundClient(own), place = own.alloc(2048);
-    const room = () => own.bytes.subarray(place, place + 2048);
+    const own = await newLibrary(), client = boundClient(own), inside = moduleOf(own), place = inside.alloc(2048);
+    const room = () => inside.bytes.subarray(place, place + 2048);
     room().set(channelData(5));
     const answer = client.recv(room().subarray(0, 9), NOW);
     assert.equal(answer.data.byteOffset, place + 4);
@@ -246,6 +248,13 @@ test("what is no module is a LibraryError", async () => {
     await assert.rejects(Library.load({ source: new URL("file:///nowhere/yarrowdoor.wasm") }), { name: "LibraryError", reason: "library" });
 });
 
+test("the inside of a library is not its users'", async () => {
+    const own = await newLibrary(), names = Object.getOwnPropertyNames(Object.getPrototypeOf(own)).sort();
+    assert.deepEqual([Object.keys(own), names], [[], ["buffer", "constructor", "memorySize"]]);
+    assert.equal("library" in own.buffer(8), false);
+    assert.throws(() => parse({ ...own }, new Uint8Array(20)), { name: "TypeError", message: /Library\.load/ });
+});
+
 test("after a fault of the module nothing of it is used", async () => {
     const { exports } = await testLibrary();
     let isFaulty = false;
@@ -255,7 +264,7 @@ test("after a fault of the module nothing of it is used", async () => {
         }
         return exports.client_call(...words);
     } };
-    const own = new Library(faulty, Infinity), client = boundClient(own), other = boundClient(own);
+    const own = new Library(new Module(faulty, Infinity)), client = boundClient(own), other = boundClient(own);
     isFaulty = true;
     assert.throws(() => client.poll(NOW), { name: "LibraryError", message: /has stopped/ });
     isFaulty = false;

@@ -27,7 +27,7 @@ for (const [name, make] of [["UDP", udp], ["TCP", tcp]]) {
             await until(() => relay.dropped === 0);
             await new Promise((resolve) => setTimeout(resolve, 50));
             const [data, peer] = await next(relay, "message");
-            assert.deepEqual([String(data instanceof Uint8Array && Buffer.from(data)), peer], ["early", PEER]);
+            assert.deepEqual([String(data instanceof Uint8Array && Buffer.from(data)), peer], ["early", { ...PEER, size: 5 }]);
             server.sendData(PEER, "taken");
             for await (const [taken] of relay) {
                 assert.equal(Buffer.from(taken).toString(), "taken");
@@ -122,18 +122,18 @@ test("a callback is told as with dgram, and errors go there", async () => {
         server.answer = () => ({ code: 403, phrase: "Forbidden" });
         const error = await new Promise((resolve) => relay.send("x", { address: "10.0.0.1", port: 1 }, resolve));
         assert.equal(error.reason, "permission-failed");
-        assert.equal(error.code, 403);
+        assert.deepEqual([error.code, error.errorCode], ["ERR_TURN_PERMISSION_FAILED", 403]);
     });
 });
 
 test("a peer that was refused is left alone for five seconds, and permit asks again", async () => {
     await withServer(udp, async (server, relay) => {
         server.answer = ({ method }) => (method === METHOD.CREATE_PERMISSION ? { code: 403, phrase: "Forbidden" } : undefined);
-        await assert.rejects(relay.send("x", PEER), { name: "PermissionFailed", code: 403 });
+        await assert.rejects(relay.send("x", PEER), { name: "PermissionFailed", errorCode: 403 });
         const asked = server.count(METHOD.CREATE_PERMISSION);
         await assert.rejects(relay.send("x", PEER), { name: "PermissionFailed", message: /less than 5 s ago/ });
         assert.equal(server.count(METHOD.CREATE_PERMISSION), asked);
-        await assert.rejects(relay.permit("127.0.0.1"), { code: 403 });
+        await assert.rejects(relay.permit("127.0.0.1"), { errorCode: 403 });
         assert.equal(server.count(METHOD.CREATE_PERMISSION), asked + 1);
     });
 });

@@ -7,7 +7,7 @@ import { pause } from "../src/node/clock.js";
 import { Ended } from "../src/node/index.js";
 import { fastClock, next, openRelay, tcp, udp, until, urlOf, withServer } from "./relays.js";
 import { PASSWORD, RELAYED, USER } from "./server.js";
-import { ATTRIBUTE, METHOD } from "./stun.js";
+import { ATTRIBUTE, METHOD, unxored } from "./stun.js";
 
 const PEER = { address: "127.0.0.1", port: 3480 }, SCRIPTS = fileURLToPath(new URL("scripts/", import.meta.url));
 const MOST_TIME = 20_000;
@@ -136,12 +136,44 @@ test("what comes between two checks counts: only silence ends the relay", async 
 test("a NAT that has forgotten the client: check says the other address", async () => {
     await withServer(udp, async (server, relay) => {
         const before = await relay.check();
-        assert.deepEqual(before, { isAnswered: true, mapped: relay.mappedAddress() });
+        assert.deepEqual(before, { isAnswered: true, mapped: relay.mappedAddress(), isAllocated: true });
         server.mapped = () => ({ address: "192.0.2.1", port: 7 });
-        assert.deepEqual(await relay.check(), { isAnswered: true, mapped: { address: "192.0.2.1", port: 7, family: "IPv4" } });
+        const mapped = { address: "192.0.2.1", port: 7, family: "IPv4" };
+        assert.deepEqual(await relay.check(), { isAnswered: true, mapped, isAllocated: true });
         server.answer = () => "drop";
-        assert.deepEqual(await relay.check(), { isAnswered: false, mapped: undefined });
+        assert.deepEqual(await relay.check(), { isAnswered: false, mapped: undefined, isAllocated: undefined });
     }, { clock: fastClock(20) });
+});
+
+for (const code of [437, 400]) {
+    test(`a server that was restarted and answers ${code}: check says that the relayed address is lost`, async () => {
+        for (const make of [udp, tcp]) {
+            await withServer(make, async (server, relay) => {
+                const lost = [];
+                relay.on("lost", (it) => lost.push(it));
+                await relay.permit("127.0.0.1");
+                assert.equal((await relay.check()).isAllocated, true);
+                server.answer = ({ method }) => (method === METHOD.CREATE_PERMISSION ? { code, phrase: "" } : undefined);
+                const { isAnswered, isAllocated } = await relay.check();
+                assert.deepEqual([isAnswered, isAllocated, lost], [true, false, []]);
+            });
+        }
+    });
+}
+
+test("check asks for a permission of nobody's, and knows a server that denies it", async () => {
+    await withServer(udp, async (server, relay) => {
+        const asked = [];
+        server.answer = ({ method, attributes }) => {
+            if (method === METHOD.CREATE_PERMISSION) {
+                asked.push(unxored(attributes.get(ATTRIBUTE.XOR_PEER_ADDRESS)).address);
+                return asked.length === 2 ? { code: 403, phrase: "Forbidden" } : undefined;
+            }
+        };
+        const found = [await relay.check(), await relay.check(), await relay.check()];
+        assert.deepEqual(found.map(({ isAllocated }) => isAllocated), [true, true, true]);
+        assert.deepEqual(asked, ["192.0.2.1", "192.0.2.2", "192.0.2.3"]);
+    });
 });
 
 test("two hours pass: permissions and channels are refreshed, and a restarted server is told by lost", async () => {

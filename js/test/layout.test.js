@@ -28,7 +28,7 @@ test("the reasons of refusals and the transports", () => {
 });
 
 test("the places and sizes of the structs", () => {
-    for (const name of ["ADDRESS", "SETTINGS", "REQUEST", "ANSWER", "MESSAGE"]) {
+    for (const name of ["ADDRESS", "SETTINGS", "REQUEST", "ANSWER", "MESSAGE", "LOAD"]) {
         const { size, fields } = header.structs[`yarrowdoor_${name.toLowerCase()}`];
         const places = Object.entries(fields).filter(([field]) => !field.startsWith("reserved"));
         assert.deepEqual({ ...layout[name] }, Object.fromEntries(places.map(([field, { offset }]) => [field.toUpperCase(), offset])), name);

@@ -2,7 +2,9 @@
 import { readFile } from "node:fs/promises";
 import path from "node:path";
 import { fileURLToPath } from "node:url";
-import { Library } from "../src/node/client.js";
+import { Library } from "../src/library.js";
+import { Module } from "../src/module.js";
+import "../src/node/platform.js";
 
 /** The folder of the modules. */
 export const FOLDER = process.env.YARROWDOOR_WASM ?? fileURLToPath(new URL("../../dist/wasm", import.meta.url));
@@ -15,7 +17,7 @@ export async function testModule() {
 /** A new library over that instance. */
 export async function testLibrary() {
     const { exports } = await testModule();
-    return { exports, library: new Library(exports, Infinity) };
+    return { exports, library: new Library(new Module(exports, Infinity)) };
 }
 
 /** A new library over the module of the package. */

@@ -27,7 +27,7 @@ for (const [name, make] of [["UDP", udp], ["TCP", tcp]]) {
     test(`over ${name}: a wrong password is named within a second`, async () => {
         await withServer(make, async (server) => {
             assert.ok(await endsWithin(1_000, () => assert.rejects(openRelay(server, { credential: "other" }),
-                (error) => error instanceof WrongCredentials && error.reason === "wrong-credentials" && error.code === 401)));
+                (error) => error instanceof WrongCredentials && error.reason === "wrong-credentials" && error.errorCode === 401)));
         }, null);
     });
 }
@@ -35,7 +35,7 @@ for (const [name, make] of [["UDP", udp], ["TCP", tcp]]) {
 test("a refusal that the server signs is told at once, with its code", async () => {
     await withServer(udp, async (server) => {
         server.answer = ({ method }) => (method === METHOD.ALLOCATE ? { code: 486, phrase: "Allocation Quota Reached" } : undefined);
-        await assert.rejects(openRelay(server), { reason: "allocation-failed", code: 486, phrase: "Allocation Quota Reached" });
+        await assert.rejects(openRelay(server), { reason: "allocation-failed", code: "ERR_TURN_ALLOCATION_FAILED", errorCode: 486, phrase: "Allocation Quota Reached" });
     }, null);
 });
 
@@ -127,7 +127,7 @@ test("several URLs: where the one that answers first refuses, the others are ask
     await relay.close();
     late.close();
     await assert.rejects(openRelay(full, { urls: ["turn:127.0.0.1:9?transport=tcp", urlOf(full)] }),
-        { code: undefined, message: /:9\?transport=tcp: .*; the server refuses \(486 / });
+        { errorCode: undefined, message: /:9\?transport=tcp: .*; the server refuses \(486 / });
     full.close();
 });
 
@@ -146,6 +146,7 @@ test("a name that is not found is an AllocationFailed with its cause", async () 
     };
     await assert.rejects(openRelay({ port: 1 }, { urls: "turn:nowhere.example", lookup }),
         (error) => error instanceof AllocationFailed && error.cause.code === "ENOTFOUND");
+    await assert.rejects(openRelay({ port: 1 }, { urls: "turn:nowhere.example", lookup: async () => [] }), { message: /nowhere\.example has no address$/ });
 });
 
 test("a signal gives up the opening, at each time, and what was granted is given back", async () => {

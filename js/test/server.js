@@ -32,6 +32,10 @@ export class Server {
     /** What the server says of a client's address. */
     mapped = ({ address, port }) => ({ address, port });
     answer = () => undefined;
+    /** Data connections that were bound (RFC 6062), as sockets, by their IDs. What comes over one is its own. */
+    bound = new Map();
+    /** How many data connections were asked for, or offered. */
+    connections = 0;
     #key = keyOf(USER, REALM, PASSWORD);
     #close = () => {};
 
@@ -50,12 +54,20 @@ export class Server {
             let rest = Buffer.alloc(0);
             sockets.add(socket);
             socket.on("error", () => {});
-            socket.on("data", (piece) => {
+            const take = (piece) => {
                 rest = server.#cut(Buffer.concat([rest, piece]), (frame) => server.#took(frame, from, (answer) => socket.write(answer)));
-            });
+                const { method, attributes, from: { port } } = server.requests.at(-1) ?? { from: {} };
+                if (method === METHOD.CONNECTION_BIND && port === from.port) {
+                    socket.off("data", take);
+                    server.clients.delete(`${from.address}:${from.port}`);
+                    server.bound.set(attributes.get(ATTRIBUTE.CONNECTION_ID).readUInt32BE(0), socket);
+                }
+            };
+            socket.on("data", take);
         });
         await new Promise((resolve) => listener.listen(0, "127.0.0.1", resolve));
         server.sockets = sockets;
+        server.listener = listener;
         server.#close = () => {
             sockets.forEach((socket) => socket.destroy());
             listener.close();
@@ -76,6 +88,12 @@ export class Server {
     /** Sends a client data of a peer, by an indication. */
     sendData(peer, data) {
         this.clients.forEach((send) => send(dataOf(peer, data)));
+    }
+
+    /** Tells clients that a peer has connected. */
+    offer(peer) {
+        const attributes = [[ATTRIBUTE.XOR_PEER_ADDRESS, xored(peer.address, peer.port)], [ATTRIBUTE.CONNECTION_ID, number32(++this.connections)]];
+        this.clients.forEach((send) => send(message(METHOD.CONNECTION_ATTEMPT, CLASS.INDICATION, Buffer.alloc(12, this.connections), attributes)));
     }
 
     #cut(bytes, took) {
@@ -139,6 +157,7 @@ export class Server {
                 const asked = this.requests[this.requests.length - 1].attributes.get(ATTRIBUTE.LIFETIME);
                 return [asked?.readUInt32BE(0) === 0 ? [ATTRIBUTE.LIFETIME, number32(0)] : lifetime];
             }
+            case METHOD.CONNECT: return [[ATTRIBUTE.CONNECTION_ID, number32(++this.connections)]];
             default: return [];
         }
     }

@@ -2,8 +2,9 @@
 /** @typedef {import("./time.js").Time} Time */
 /** @typedef {"udp" | "tcp"} Transport */
 /**
- * Nothing is due before `until`. Any other call may make it earlier.
- * @typedef {{ kind: "wait-until", until: Time }} WaitUntil
+ * Nothing is due before `until`, which is in the unit of the time that was passed in. Any other call may make it earlier.
+ * @template {Time} [T=Time]
+ * @typedef {{ kind: "wait-until", until: import("./time.js").UnitOf<T> }} WaitUntil
  */
 /**
  * Open a connection to `remote` for data of `peer`, and pass it to `allocatedTcpSocket`.
@@ -20,7 +21,8 @@
  */
 /**
  * What is to be done next.
- * @typedef {WaitUntil | AllocateTcpSocket | TcpClose | Closed} Poll
+ * @template {Time} [T=Time]
+ * @typedef {WaitUntil<T> | AllocateTcpSocket | TcpClose | Closed} Poll
  */
 /**
  * Send these bytes over `transport`, from the socket at `local` to `remote`.
@@ -97,13 +99,14 @@
  */
 export function transportAt(view: DataView, answer: number): "tcp" | "udp";
 /**
+ * @template {Time} T
  * @param {number} kind
  * @param {DataView} view
  * @param {number} answer
- * @param {Time} now
- * @returns {Poll}
+ * @param {T} now
+ * @returns {Poll<T>}
  */
-export function pollOf(kind: number, view: DataView, answer: number, now: Time): Poll;
+export function pollOf<T extends import("./time.js").Time>(kind: number, view: DataView, answer: number, now: T): Poll<T>;
 /**
  * @param {number} kind
  * @param {DataView} view
@@ -127,11 +130,11 @@ export type Address = import("./address.js").Address;
 export type Time = import("./time.js").Time;
 export type Transport = "udp" | "tcp";
 /**
- * Nothing is due before `until`. Any other call may make it earlier.
+ * Nothing is due before `until`, which is in the unit of the time that was passed in. Any other call may make it earlier.
  */
-export type WaitUntil = {
+export type WaitUntil<T extends import("./time.js").Time = import("./time.js").Time> = {
     kind: "wait-until";
-    until: Time;
+    until: import("./time.js").UnitOf<T>;
 };
 /**
  * Open a connection to `remote` for data of `peer`, and pass it to `allocatedTcpSocket`.
@@ -161,7 +164,7 @@ export type Closed = {
 /**
  * What is to be done next.
  */
-export type Poll = WaitUntil | AllocateTcpSocket | TcpClose | Closed;
+export type Poll<T extends import("./time.js").Time = import("./time.js").Time> = WaitUntil<T> | AllocateTcpSocket | TcpClose | Closed;
 /**
  * Send these bytes over `transport`, from the socket at `local` to `remote`.
  */

@@ -1,12 +1,12 @@
 /**
- * The place of a part of a buffer. TypeError where it is no buffer of this library, RangeError where it has no such part.
+ * The place of a part of a buffer. TypeError where it is no buffer of this module, RangeError where it has no such part.
  * @param {ModuleBuffer} buffer
- * @param {import("./library.js").Library} library
+ * @param {Module} module
  * @param {number} offset
  * @param {number} length
  * @param {string} name
  */
-export function partOf(buffer: ModuleBuffer, library: import("./library.js").Library, offset: number, length: number, name: string): number;
+export function partOf(buffer: ModuleBuffer, module: Module, offset: number, length: number, name: string): number;
 /**
  * RangeError where a packet would be written over the data that it carries: the module is promised that they lie apart.
  * @param {number} place
@@ -15,22 +15,22 @@ export function partOf(buffer: ModuleBuffer, library: import("./library.js").Lib
  * @param {number} room
  */
 export function checkApart(place: number, length: number, into: number, room: number): void;
+/** @typedef {import("./module.js").Module} Module */
 /**
  * A buffer in the memory of a library. `recvFrom` and `sendFrom` take what lies in it, and `sendFrom` writes into one. It is kept
  * until `free`, also where nothing refers to it.
  */
 export class ModuleBuffer {
     /**
-     * RangeError where the length is none, OutOfMemory.
-     * @param {import("./library.js").Library} library
+     * Use `client.buffer(length)` or `library.buffer(length)`. RangeError where the length is none, OutOfMemory.
+     * @param {Module} module
      * @param {number} length
      */
-    constructor(library: import("./library.js").Library, length: number);
+    constructor(module: Module, length: number);
     /** Where it begins in the memory of its library. */
     place: number;
     /** How many bytes it has: none after `free`. */
     length: number;
-    library: import("./library.js").Library;
     /**
      * All of its bytes. Ask for them anew after each call: where the memory of the module has grown, what was given before is empty.
      * @returns {Uint8Array}
@@ -38,5 +38,8 @@ export class ModuleBuffer {
     get bytes(): Uint8Array;
     /** Gives the memory back. Bytes that were taken of it before are another's then, and not to be used. */
     free(): void;
+    /** The same as `free`, for `using`. */
+    [Symbol.dispose](): void;
     #private;
 }
+export type Module = import("./module.js").Module;

@@ -11,14 +11,14 @@ export class Calls {
     /**
      * Makes the client. TypeError, RangeError, OutOfMemory.
      * @param {import("./settings.js").Settings} settings
-     * @param {import("./library.js").Library} library
+     * @param {import("./module.js").Module} module
      */
-    constructor(settings: import("./settings.js").Settings, library: import("./library.js").Library);
+    constructor(settings: import("./settings.js").Settings, module: import("./module.js").Module);
     /** The peers that answers have. */
     peers: LastAddress;
-    library: import("./library.js").Library;
-    /** @type {import("./library.js").Held} */
-    held: import("./library.js").Held;
+    module: import("./module.js").Module;
+    /** @type {import("./module.js").Held} */
+    held: import("./module.js").Held;
     isStream: boolean;
     relay: number;
     /** The addresses of its own socket. */
@@ -30,7 +30,7 @@ export class Calls {
      */
     poll(now: Time): number;
     /**
-     * Makes a call whose answer has bytes, into `library.outputOf(MAX_PACKET)`.
+     * Makes a call whose answer has bytes, into `module.outputOf(MAX_PACKET)`.
      * @param {number} call
      * @param {Time} now
      */

@@ -27,11 +27,12 @@ export class Client {
     /** Frees the client. It sends nothing: `delete` gives the allocation back to the server before. Later calls are `Ended`. */
     close(): void;
     /**
-     * What is to be done next. While an event is to be polled, it is to wait until `now`.
-     * @param {Time} now
-     * @returns {import("./answers.js").Poll}
+     * What is to be done next. While an event is to be polled, it is to wait until `now`. `until` is in the unit of `now`.
+     * @template {Time} T
+     * @param {T} now
+     * @returns {import("./answers.js").Poll<T>}
      */
-    poll(now: Time): import("./answers.js").Poll;
+    poll<T extends import("./time.js").Time>(now: T): import("./answers.js").Poll<T>;
     /**
      * The next packet that is due.
      * @param {Time} now
@@ -200,6 +201,14 @@ export class Client {
      */
     delete(now: Time): void;
     /**
+     * Ends the client at once, for a caller that closes its socket right away. The packet that it gives deletes the allocation (RFC
+     * 8656, section 8), past the pause and past what waits to be sent: send it, and wait for no answer. Undefined where nothing was
+     * granted, or it had ended. `OutOfMemory`: nothing has changed. One that waits for the answer calls `delete`.
+     * @param {Time} now
+     * @returns {import("./answers.js").Packet | undefined}
+     */
+    abandon(now: Time): import("./answers.js").Packet | undefined;
+    /**
      * Reports an error of a layer between client and server, as TLS: each family that is still requested fails, and the client has
      * ended.
      */
@@ -229,6 +238,8 @@ export class Client {
     permissions(relayed: AddressLike, { transport }?: {
         transport?: Transport;
     }): string[];
+    /** The same as `close`, for `using`. */
+    [Symbol.dispose](): void;
     #private;
 }
 export type Address = import("./address.js").Address;

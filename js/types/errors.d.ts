@@ -12,6 +12,8 @@ export class YarrowdoorError extends Error {
     constructor(reason: string, message: string, cause?: unknown);
     /** Why, in a word that stays the same. */
     reason: string;
+    /** The same as Node's errors have it: `ERR_TURN_PERMISSION_FAILED` of `permission-failed`. */
+    code: string;
     /**
      * What it comes from, as the error of a socket.
      * @type {unknown}
@@ -64,7 +66,7 @@ export class Ended extends YarrowdoorError {
     constructor(message: string, cause?: unknown);
 }
 /**
- * An error of the server. `code` and `phrase` are what an error response said, if one was seen. Nobody has to have signed that
+ * An error of the server. `errorCode` and `phrase` are what an error response said, if one was seen. Nobody has to have signed that
  * response, so it is a hint: anyone who knows the addresses can send such a packet.
  */
 export class ServerError extends YarrowdoorError {
@@ -75,8 +77,8 @@ export class ServerError extends YarrowdoorError {
      * @param {unknown} [cause]
      */
     constructor(reason: string, message: string, hint?: Hint | undefined, cause?: unknown);
-    /** The number of the error response (RFC 8656, section 19; RFC 8489, section 14.8). */
-    code: number | undefined;
+    /** The number of the error response (RFC 8656, section 19; RFC 8489, section 14.8), by the name that WebRTC has for it. */
+    errorCode: number | undefined;
     /** The server's words for it, for people to read. They may be empty. */
     phrase: string;
 }
@@ -91,8 +93,8 @@ export class AllocationFailed extends ServerError {
     constructor(message: string, hint?: Hint | undefined, cause?: unknown, reason?: string | undefined);
 }
 /**
- * The server gives no relayed address, and a packet said that user name or password are wrong: `wrong-credentials`. `code` is 401,
- * or 400 with some servers.
+ * The server gives no relayed address, and a packet said that user name or password are wrong: `wrong-credentials`. `errorCode` is
+ * 401, or 400 with some servers.
  */
 export class WrongCredentials extends AllocationFailed {
     /**
@@ -116,6 +118,18 @@ export class ChannelFailed extends ServerError {
      * @param {Hint | undefined} [hint]
      */
     constructor(message: string, hint?: Hint | undefined);
+}
+/**
+ * There is no connection to the peer over TCP (RFC 6062, section 4.3): the peer refuses it, the server does, or did not answer, or
+ * there is no data connection to the server: `connect-failed`.
+ */
+export class ConnectFailed extends ServerError {
+    /**
+     * @param {string} message
+     * @param {Hint | undefined} [hint]
+     * @param {unknown} [cause]
+     */
+    constructor(message: string, hint?: Hint | undefined, cause?: unknown);
 }
 /**
  * What an error response said: its code, and its words.

@@ -60,6 +60,7 @@ export const CALL: Readonly<{
     SET_PERMISSION_KEPT: 18;
     SET_CHANNEL_KEPT: 19;
     SEND_HEAD: 20;
+    ABANDON: 21;
 }>;
 /** The reasons of a refusal, by their numbers from 1 on. */
 export const REASONS: readonly string[];
@@ -75,6 +76,7 @@ export const SIZE: Readonly<{
     REQUEST: 136;
     ANSWER: 160;
     MESSAGE: 112;
+    LOAD: 24;
 }>;
 /** Places in an address. */
 export const ADDRESS: Readonly<{
@@ -149,6 +151,13 @@ export const MESSAGE: Readonly<{
     REALM_LEN: 44;
     MAPPED: 48;
     ALTERNATE: 76;
+}>;
+/** Places in what takes time beside refreshes. */
+export const LOAD: Readonly<{
+    LATE: 0;
+    DELAY: 8;
+    SLOTS: 16;
+    EXTRAS: 20;
 }>;
 /** A buffer of so many bytes holds each packet that is not data. */
 export const MAX_PACKET: 65556;

@@ -7,10 +7,10 @@
 export function numberOf(words: Readonly<Record<string, number>>, word: unknown, name: string): number;
 /**
  * Writes the settings, and gives the bytes beside them. TypeError and RangeError where one is none.
- * @param {import("./library.js").Library} library
+ * @param {import("./module.js").Module} module
  * @param {Settings} given
  */
-export function putSettings(library: import("./library.js").Library, given: Settings): {
+export function putSettings(module: import("./module.js").Module, given: Settings): {
     user: Uint8Array;
     password: Uint8Array;
     seed: Uint8Array;

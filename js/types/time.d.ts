@@ -17,14 +17,19 @@ export function putTime(view: DataView, place: number, time: Time, name?: string
 export function passTime(view: DataView, place: number, time: Time): number;
 /**
  * Reads a time, in the unit of another one. In milliseconds it is not before the time that stands there.
+ * @template {Time} T
  * @param {DataView} view
  * @param {number} place
- * @param {Time} like
- * @returns {Time}
+ * @param {T} like
+ * @returns {UnitOf<T>}
  */
-export function timeAt(view: DataView, place: number, like: Time): Time;
+export function timeAt<T extends Time>(view: DataView, place: number, like: T): UnitOf<T>;
 /**
  * A time of a clock that never goes back: milliseconds as `performance.now()` gives them, or nanoseconds as a bigint, as
  * `process.hrtime.bigint()` does. Each is at most 2^62 ns, 146 years. What a call answers is in the unit of its time.
  */
 export type Time = number | bigint;
+/**
+ * The unit of a time, in which a call answers: milliseconds or nanoseconds.
+ */
+export type UnitOf<T extends Time> = T extends bigint ? bigint : number;

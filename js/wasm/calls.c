@@ -16,6 +16,8 @@ u32 yarrowdoor_call(void *client, const void *request, const u8 *bytes, u64 byte
 u32 yarrowdoor_look(const void *client, const void *request, void *answer);
 u32 yarrowdoor_read_message(u32 transport, const u8 *bytes, u64 len, void *message);
 u32 yarrowdoor_read_attribute(const u8 *bytes, u64 len, u32 type, u64 *start, u64 *value_len);
+u64 yarrowdoor_kept_grants(const void *load, u64 request_cadence, u64 refresh_ahead);
+u64 yarrowdoor_longest_cadence(const void *load, u64 count, u64 refresh_ahead);
 void yarrowdoor_free(void *client);
 
 static void *at(u32 place) { return (void *)(u64)place; }
@@ -63,6 +65,23 @@ __attribute__((export_name("client_free"))) void client_free(u32 client) { yarro
 __attribute__((export_name("read_message"))) u32 read_message(u32 transport, u32 bytes, u32 len, u32 message)
 {
     return yarrowdoor_read_message(transport, at(bytes), len, at(message));
+}
+
+/* The bytes of a load (yarrowdoor_load). */
+#define LOAD 24UL
+
+/* As yarrowdoor_kept_grants, with the load at `place` and the two settings behind it. The number is put to the front. */
+__attribute__((export_name("kept_grants"))) void kept_grants(u32 place)
+{
+    const u64 *settings = at(place + LOAD);
+    *(u64 *)at(place) = yarrowdoor_kept_grants(at(place), settings[0], settings[1]);
+}
+
+/* As yarrowdoor_longest_cadence, with the load at `place`, and count and setting behind it. The number is put to the front. */
+__attribute__((export_name("longest_cadence"))) void longest_cadence(u32 place)
+{
+    const u64 *words = at(place + LOAD);
+    *(u64 *)at(place) = yarrowdoor_longest_cadence(at(place), words[0], words[1]);
 }
 
 /* As yarrowdoor_read_attribute, with place and length of the value as two numbers of 32 bits at `place`. */

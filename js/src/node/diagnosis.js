@@ -55,6 +55,7 @@ export class Diagnosis {
             return;
         }
         this.#heard = this.#clock.now();
+        asked.took = this.#heard - asked.sent;
         this.socketError = undefined;
         const error = message.class === "error" ? message.error : undefined;
         if (error) {

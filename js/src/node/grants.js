@@ -44,6 +44,11 @@ export class Grants {
         this.#tellLost = tellLost;
     }
 
+    /** How many permissions and channels there are. */
+    get count() {
+        return this.#granted.size;
+    }
+
     /**
      * Asks for a permission, unless there is one, and waits for the answer.
      * @param {string} given an IP address in any spelling: events have the canonical one

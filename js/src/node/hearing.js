@@ -1,6 +1,7 @@
 // What the server's messages say beside what the client makes of them: that it answers, who it sees, and why it refuses.
 import { parse } from "../message.js";
 import { refusal } from "./diagnosis.js";
+import { CHANNELS, publishMessage } from "./diagnostics.js";
 import { Frames, METHOD } from "./reasons.js";
 
 /** What is heard of a server by a session. */
@@ -26,13 +27,18 @@ export class Hearing {
      * Reads what messages say, after the client has taken them, or ignored the first one.
      * @param {Uint8Array} data
      * @param {boolean} isIgnored
+     * @param {Frames} frames those of the connection that they came over
      */
-    hear(data, isIgnored) {
+    hear(data, isIgnored, frames = this.#frames) {
         const session = this.#session, { library, link, path } = session;
         session.diagnosis.begins();
-        for (const { message, packet } of link.isStream ? this.#frames.messages(library, data) : this.#oneOf(data)) {
+        for (const { message, packet } of link.isStream ? frames.messages(library, data) : this.#oneOf(data)) {
+            publishMessage(CHANNELS.received, session.uri, packet);
             if (!path.hears(message)) {
                 this.#hearOne(message, packet, isIgnored);
+            }
+            if (message.method === METHOD.CONNECTION_BIND && message.class === "success") {
+                break; // what comes behind it is the peer's
             }
         }
     }

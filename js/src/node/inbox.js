@@ -2,7 +2,11 @@
 import { Deferred } from "./deferred.js";
 
 /** @typedef {import("../address.js").Address} Address */
-/** @typedef {[data: Buffer, peer: Address]} Packet */
+/**
+ * Who sent data, and how many bytes it has, as `dgram` says it.
+ * @typedef {Address & { readonly size: number }} RemoteInfo
+ */
+/** @typedef {[data: Buffer, peer: RemoteInfo]} Packet */
 
 /** A queue of at most so many packets. A further one is dropped, and counted. */
 export class Inbox {
@@ -24,7 +28,7 @@ export class Inbox {
 
     /**
      * @param {Buffer} data
-     * @param {Address} peer
+     * @param {RemoteInfo} peer
      */
     put(data, peer) {
         const taker = this.#takers.shift();

@@ -3,5 +3,13 @@
  *
  * @module
  */
+export { PeerStream } from "./peer-stream.js";
 export { Relay } from "./relay.js";
 export * from "./client.js";
+
+// What its users write types with.
+/** @typedef {import("./options.js").RelayOptions} RelayOptions */
+/** @typedef {import("./events.js").RelayEvents} RelayEvents */
+/** @typedef {import("./inbox.js").RemoteInfo} RemoteInfo */
+/** @typedef {import("./grants.js").Lost} Lost */
+/** @typedef {import("./path.js").Check} Check */

@@ -11,6 +11,11 @@ import { Room } from "./room.js";
  *     drained(): void }} LinkUser
  */
 /** @typedef {DatagramLink | StreamLink} Link */
+/**
+ * What the user says of the socket: its own address, or a socket in place of a new one.
+ * @typedef {{ readonly local?: import("./options.js").Local,
+ *     readonly socket?: import("node:dgram").Socket | import("node:net").Socket }} Own
+ */
 
 /** So many packets are handed to the system before it has told of the first. More may be lost there without a word. */
 const MOST_PENDING = 256;
@@ -28,6 +33,18 @@ function addressOf({ address = "", port = 0 }) {
     return { address: address.split("%")[0], port };
 }
 
+/**
+ * Where a socket over UDP is connected to, or undefined where it is not.
+ * @param {import("node:dgram").Socket} socket
+ */
+export function remoteOf(socket) {
+    try {
+        return socket.remoteAddress();
+    } catch {
+        return undefined;
+    }
+}
+
 /** A socket over UDP, that is connected: what comes is from the server. */
 export class DatagramLink {
     isStream = false;
@@ -38,21 +55,32 @@ export class DatagramLink {
     #room = new Room(this);
 
     /**
+     * Connects a socket to the server: a new one, or that of the user.
      * @param {string} host
      * @param {number} port
      * @param {AbortSignal | undefined} signal
+     * @param {Own} own
      */
-    static async connect(host, port, signal) {
-        const socket = dgram.createSocket(host.includes(":") ? "udp6" : "udp4"), connected = new Deferred();
-        socket.once("error", (error) => connected.reject(error));
+    static async connect(host, port, signal, { local, socket: given } = {}) {
+        const socket = given instanceof dgram.Socket ? given : dgram.createSocket(host.includes(":") ? "udp6" : "udp4");
+        const connected = new Deferred(), onError = (/** @type {Error} */ error) => connected.reject(error);
+        socket.once("error", onError);
+        const connect = () => socket.connect(port, host, () => connected.resolve(undefined));
         try {
-            socket.connect(port, host, () => connected.resolve(undefined));
+            if (given instanceof dgram.Socket && remoteOf(given)) {
+                connected.resolve(undefined);
+            } else if (local && (local.address !== undefined || local.port !== 0)) {
+                socket.bind({ port: local.port, address: local.address, exclusive: true }, connect);
+            } else {
+                connect();
+            }
             await abortable(connected.promise, signal);
         } catch (error) {
+            socket.on("error", () => {}); // the caller has it already
             socket.close();
             throw error;
         }
-        socket.removeAllListeners("error");
+        socket.off("error", onError);
         return new DatagramLink(socket);
     }
 
@@ -157,23 +185,31 @@ export class StreamLink {
      * @param {number} port
      * @param {import("node:tls").ConnectionOptions | undefined} secure options of TLS, if that is used
      * @param {AbortSignal | undefined} signal
+     * @param {Own} own
      */
-    static async connect(host, port, secure, signal) {
-        const socket = secure ? tls.connect({ ...secure, host, port }) : net.connect({ host, port });
-        const connected = new Deferred();
-        socket.once("error", (error) => connected.reject(error));
-        socket.once("close", () => connected.reject(new Error("the server closed the connection at once")));
-        socket.once(secure ? "secureConnect" : "connect", () => connected.resolve(undefined));
+    static async connect(host, port, secure, signal, { local, socket: given } = {}) {
+        const to = { host, port, localAddress: local?.address, localPort: local?.port || undefined };
+        const over = given instanceof net.Socket ? given : undefined;
+        const socket = secure ? tls.connect({ ...secure, ...(over ? { socket: over } : to) }) : over ?? net.connect(to);
+        const connected = new Deferred(), onError = (/** @type {Error} */ error) => connected.reject(error);
+        const onClose = () => connected.reject(new Error("the server closed the connection at once"));
+        socket.once("error", onError);
+        socket.once("close", onClose);
+        if (over && !secure) {
+            over.destroyed ? connected.reject(new Error("the socket is closed")) : connected.resolve(undefined);
+        } else {
+            socket.once(secure ? "secureConnect" : "connect", () => connected.resolve(undefined));
+        }
         try {
             await abortable(connected.promise, signal);
         } catch (error) {
-            socket.on("error", () => {}); // it is told already
+            socket.on("error", () => {}); // the caller has it already
             socket.destroy();
             throw error;
         }
-        socket.removeAllListeners("error");
-        socket.removeAllListeners("close");
-        return new StreamLink(socket);
+        socket.off("error", onError);
+        socket.off("close", onClose);
+        return new this(socket);
     }
 
     /** @param {import("node:net").Socket} socket */

@@ -1,11 +1,23 @@
 // Data of peers for who listens, or who takes it: the events of a relay.
-import { EventEmitter } from "node:events";
+import { RelayEmitter } from "./events.js";
 import { Inbox } from "./inbox.js";
 
 /** @typedef {import("../address.js").Address} Address */
+/** @typedef {import("./events.js").RelayEvents} RelayEvents */
+/** @typedef {import("./inbox.js").RemoteInfo} RemoteInfo */
+
+/**
+ * @param {Address} peer
+ * @param {number} size
+ * @returns {RemoteInfo}
+ */
+function remoteInfo(peer, size) {
+    const { address, port, family } = peer;
+    return peer.flow === undefined ? { address, port, family, size } : { ...peer, size };
+}
 
 /** An emitter whose `message` events can be taken by `for await` too, where nobody listens. */
-export class Messages extends EventEmitter {
+export class Messages extends RelayEmitter {
     #inbox;
     /** @type {import("../errors.js").Ended | undefined} */
     #why;
@@ -35,11 +47,12 @@ export class Messages extends EventEmitter {
      * @protected
      */
     put(data, peer) {
+        const from = remoteInfo(peer, data.length);
         if (this.listenerCount("message") > 0) {
             this.#emitWaiting();
-            this.#emitNow(data, peer);
+            this.#emitNow(data, from);
         } else {
-            this.#inbox.put(data, peer);
+            this.#inbox.put(data, from);
         }
     }
 
@@ -53,7 +66,7 @@ export class Messages extends EventEmitter {
     /**
      * Tells data. What a listener throws is thrown where it cannot stop the client.
      * @param {Buffer} data
-     * @param {Address} peer
+     * @param {RemoteInfo} peer
      */
     #emitNow(data, peer) {
         try {
@@ -67,12 +80,13 @@ export class Messages extends EventEmitter {
 
     /**
      * Emits something when what is under way is done.
-     * @param {string} name
-     * @param {unknown[]} words
+     * @template {keyof RelayEvents} Name
+     * @param {Name} name
+     * @param {Parameters<RelayEvents[Name]>} words
      * @protected
      */
     emitLater(name, ...words) {
-        process.nextTick(() => this.emit(name, ...words));
+        process.nextTick(() => this.emit(name, .../** @type {any} */ (words)));
     }
 
     /**
@@ -91,7 +105,7 @@ export class Messages extends EventEmitter {
 
     /**
      * The data of peers that no listener had, in order. It ends when the relay is closed; `Ended` where it ended by itself.
-     * @returns {AsyncGenerator<[data: Buffer, peer: Address], void, void>}
+     * @returns {AsyncGenerator<[data: Buffer, peer: RemoteInfo], void, void>}
      */
     async *[Symbol.asyncIterator]() {
         this.#iterating++;

@@ -3,7 +3,7 @@ import { Client } from "../client.js";
 import { AllocationFailed } from "../errors.js";
 import { Library } from "../library.js";
 import { abortable } from "./deferred.js";
-import { NoneSucceeded, addressesOf, connect, firstOf, unreachable } from "./servers.js";
+import { NoneSucceeded, addressesOf, closeUnused, connect, connectData, firstOf, unreachable } from "./servers.js";
 import { Session } from "./session.js";
 
 /** @typedef {import("./options.js").Checked} Checked */
@@ -12,6 +12,11 @@ import { Session } from "./session.js";
 
 /** @param {Session} session */
 const discard = (session) => void session.leave();
+/**
+ * Whether sockets to the server have a port of the user's, so that there is one at a time.
+ * @param {Checked} options
+ */
+const hasPort = ({ local }) => local.port !== 0;
 
 /**
  * A session with a relayed address. The next URI is tried beside the ones before where the server has not answered in 250 ms, and the
@@ -21,6 +26,19 @@ const discard = (session) => void session.leave();
  * @param {SessionUser} user
  */
 export async function openSession(options, user) {
+    try {
+        return await opened(options, user);
+    } catch (error) {
+        options.socket && closeUnused(options.socket);
+        throw error;
+    }
+}
+
+/**
+ * @param {Checked} options
+ * @param {SessionUser} user
+ */
+async function opened(options, user) {
     options.signal?.throwIfAborted();
     const library = options.library ?? await abortable(Library.shared(), options.signal);
     /** @type {Map<TurnUri, AllocationFailed>} */
@@ -62,7 +80,7 @@ function failureOf(failures) {
  */
 async function soonest(options, library, uris, user, failures) {
     try {
-        return await firstOf(uris, (uri, signal) => answering(options, library, uri, user, signal), discard, options.signal);
+        return await firstOf(uris, (uri, signal) => answering(options, library, uri, user, signal), discard, options.signal, hasPort(options));
     } catch (error) {
         if (!(error instanceof NoneSucceeded)) {
             throw error;
@@ -86,11 +104,12 @@ async function soonest(options, library, uris, user, failures) {
  * @param {AbortSignal} signal
  */
 async function answering(options, library, uri, user, signal) {
-    const hosts = await abortable(addressesOf(uri, options.lookup), signal);
+    const hosts = await abortable(addressesOf(uri, options), signal);
     /** @type {Session} */
     let session;
     try {
-        session = await firstOf(hosts, (host, others) => attempt(options, library, uri, host, user, others), discard, signal);
+        session = await firstOf(hosts, (host, others) => attempt(options, library, uri, host, user, others), discard, signal,
+            hasPort(options));
     } catch (error) {
         throw error instanceof NoneSucceeded ? unreachable(uri, error.failures) : error;
     }
@@ -113,15 +132,17 @@ async function answering(options, library, uri, user, signal) {
  * @param {AbortSignal} signal
  */
 async function attempt(options, library, uri, host, user, signal) {
-    const link = await connect(uri, host, options.tls, signal);
+    const link = await connect(uri, host, options, signal);
     let session;
     try {
-        const { username, credential, times, anonymous, maxStaleNonces, pause, keepalive, refreshAhead, clock } = options;
+        const { username, credential, allocation, times, anonymous, maxStaleNonces, pause, keepalive, refreshAhead, clock } = options;
         const client = new Client({
-            local: link.local, remote: link.remote, username, credential, transport: uri.transport, families: [options.family], times,
-            anonymous, maxStaleNonces, pause, keepalive, refreshAhead,
+            local: link.local, remote: link.remote, username, credential, transport: uri.transport, allocation, families: [options.family],
+            times, anonymous, maxStaleNonces, pause, keepalive, refreshAhead,
         }, library);
-        session = new Session(client, link, uri, { library, clock, maxStaleNonces }, user);
+        /** @type {import("./state.js").ConnectTo} */
+        const connectTo = (given) => connectData(uri, host, link.remote.port, options, given);
+        session = new Session(client, link, uri, { library, clock, maxStaleNonces, pause, refreshAhead, connectTo }, user);
         if (!link.isStream) {
             await abortable(session.waiting.heard.promise, signal); // a stream has answered when it was connected
         }

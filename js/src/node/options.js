@@ -1,25 +1,34 @@
-// What a relay is opened with, checked.
+// What a relay is opened with, and what its calls are called with, checked.
+import dgram from "node:dgram";
+import net from "node:net";
 import { parseIp } from "../address.js";
 import { CLOCK } from "./clock.js";
-import { lookupAll } from "./servers.js";
+import { isUsed, lookupAll } from "./servers.js";
 import { parseUri } from "./uri.js";
 
 /**
- * `urls`, `username` and `credential` are those of WebRTC's RTCIceServer: one URI of RFC 7065 or several. A further one is
- * tried beside those before where these have not answered in 250 ms, and at once where they have failed. URIs of STUN servers are skipped.
- * `family` is that of the relayed address, which reaches peers of this family only. `tls` are options of `tls.connect` for `turns:`,
- * as `ca`; certificates are checked unless they say otherwise. `times` is how long a request waits for its answer. `queue` packets
- * of peers wait to be taken where there is no listener for `message`; a further one is dropped and counted. The path to the server
- * is checked every `probe` milliseconds: three checks in a row without an answer, with nothing from the server in between, end the
- * relay; with 0 none is made, as by default over UDP, and 15,000 is the default over TCP and TLS. When nothing was sent for `keepalive` milliseconds, something is, so that a NAT in between keeps
- * its mapping; with 0 never. Between two requests lies a `pause`, and permissions and channels are refreshed `refreshAhead` before
- * they expire, in milliseconds. `anonymous` hides the user name (RFC 8489, section 14.4). `maxStaleNonces` challenges in a row are
- * answered. `signal` gives up the opening. `library` is the module, by default the one that all share.
+ * `urls`, `username` and `credential` are those of WebRTC's RTCIceServer: one URI of RFC 7065 or several. A further one is tried
+ * beside those before where these have not answered in 250 ms, and at once where they have failed. URIs of STUN servers are
+ * skipped. `family` is that of the relayed address, which reaches peers of this family only. `allocation` is the transport between
+ * server and peers: with `"tcp"` (RFC 6062) there are streams in place of datagrams, and URIs over UDP are skipped. `tls` are options of `tls.connect` for
+ * `turns:`, as `ca`; certificates are checked unless they say otherwise. `times` is how long a request waits for its answer.
+ * `queue` packets of peers wait to be taken where there is no listener for `message`; a further one is dropped and counted. The
+ * path to the server is checked every `probe` milliseconds: three checks in a row without an answer, with nothing from the server
+ * in between, end the relay; with 0 none is made, as by default over UDP, and 15,000 is the default over TCP and TLS. When nothing
+ * was sent for `keepalive` milliseconds, something is, so that a NAT in between keeps its mapping; with 0 never. Between two
+ * requests lies a `pause`, and permissions and channels are refreshed `refreshAhead` before they expire, in milliseconds. Sockets
+ * to the server have `localAddress`, an IP address, and `localPort`, which `net.connect` names so: with such a port there is one
+ * socket at a time. `socket` is a socket of the user, that the relay uses in place of one of its own, and closes: for a URI over
+ * UDP one of `dgram`, which it connects unless it is, else a connected one of `net`, over which TLS is begun. `anonymous` hides the
+ * user name (RFC 8489, section 14.4). `maxStaleNonces` challenges in a row are answered. `signal` gives up the opening. `library`
+ * is the module, by default the one that all share.
  * @typedef {{ readonly urls: string | readonly string[], readonly username: string | Uint8Array,
- *     readonly credential: string | Uint8Array, readonly family?: 4 | 6, readonly tls?: import("node:tls").ConnectionOptions,
+ *     readonly credential: string | Uint8Array, readonly family?: 4 | 6, readonly allocation?: "udp" | "tcp",
+ *     readonly tls?: import("node:tls").ConnectionOptions,
  *     readonly times?: import("../settings.js").Times, readonly queue?: number, readonly probe?: number, readonly keepalive?: number,
  *     readonly pause?: number, readonly refreshAhead?: number, readonly anonymous?: "auto" | "required" | "disabled",
- *     readonly maxStaleNonces?: number, readonly signal?: AbortSignal,
+ *     readonly maxStaleNonces?: number, readonly signal?: AbortSignal, readonly localAddress?: string, readonly localPort?: number,
+ *     readonly socket?: import("node:dgram").Socket | import("node:net").Socket,
  *     readonly library?: import("../library.js").Library }} RelayOptions
  */
 /**
@@ -27,6 +36,10 @@ import { parseUri } from "./uri.js";
  * @typedef {{ readonly clock?: import("./clock.js").Clock, readonly lookup?: (host: string) => Promise<string[]> }} Hooks
  */
 /** @typedef {ReturnType<typeof checkOptions>} Checked */
+/**
+ * The own address of a socket: any where there is no address, and a port of the system's where it is 0.
+ * @typedef {{ readonly address: string | undefined, readonly port: number }} Local
+ */
 
 /** The URI of a STUN server (RFC 7064). Services list some beside the TURN servers: a relay needs none. */
 const STUN = /^stuns?:/i;
@@ -53,20 +66,74 @@ export function checkOptions({ urls, family = 4, queue = 1_024, probe, keepalive
     if (!Array.isArray(list) || list.length === 0) {
         throw new TypeError("urls is a URI of a TURN server, or a list of them");
     }
-    const uris = list.filter((url) => !STUN.test(url)).map(parseUri);
-    if (uris.length === 0) {
-        throw new TypeError("urls has a URI of a TURN server, and not of STUN servers only");
-    }
+    const { allocation = "udp" } = rest, uris = urisFor(list, allocation);
     if (family !== 4 && family !== 6) {
         throw new TypeError(`family is 4 or 6, and not ${String(family)}`);
     }
     const { username, credential, tls, times, anonymous, signal, library, maxStaleNonces = 256, clock = CLOCK, lookup = lookupAll } = rest;
     return {
-        uris, family, queue: numberFrom(queue, "queue", 1),
+        uris, family, allocation, local: localOf(rest), socket: socketOf(rest, uris), queue: numberFrom(queue, "queue", 1),
         probe: probe === undefined ? undefined : numberFrom(probe, "probe", 0), username, credential, tls, times, anonymous, signal, library,
         keepalive: numberFrom(keepalive, "keepalive", 0), pause: numberFrom(pause, "pause", 0),
         refreshAhead: numberFrom(refreshAhead, "refreshAhead", 0), maxStaleNonces, clock, lookup,
     };
+}
+
+/**
+ * The URIs of the servers that can be asked. TypeError where there is none.
+ * @param {string[]} list
+ * @param {unknown} allocation
+ */
+function urisFor(list, allocation) {
+    if (allocation !== "udp" && allocation !== "tcp") {
+        throw new TypeError(`allocation is "udp" or "tcp", and not ${String(allocation)}`);
+    }
+    const uris = list.filter((url) => !STUN.test(url)).map(parseUri);
+    if (uris.length === 0) {
+        throw new TypeError("urls has a URI of a TURN server, and not of STUN servers only");
+    }
+    const fit = uris.filter(({ transport }) => allocation === "udp" || transport === "tcp");
+    if (fit.length === 0) {
+        throw new TypeError('allocation: "tcp" needs a URI over TCP or TLS: turn:HOST?transport=tcp, or turns:HOST (RFC 6062, section 4.1)');
+    }
+    return fit;
+}
+
+/**
+ * The own address of the sockets to the server, where the user says it. TypeError where it is no IP address, RangeError where its port
+ * is none.
+ * @param {{ readonly localAddress?: string, readonly localPort?: number }} options
+ * @returns {Local}
+ */
+function localOf({ localAddress, localPort = 0 }) {
+    if (!Number.isInteger(localPort) || localPort < 0 || localPort > 65_535) {
+        throw new RangeError(`localPort is from 0 to 65535, and not ${String(localPort)}`);
+    }
+    return { address: localAddress === undefined ? undefined : ipOf(localAddress).text, port: localPort };
+}
+
+/**
+ * The socket of the user. TypeError where it is none for the URI, or has no place beside another URI or an address of its own.
+ * @param {{ readonly socket?: unknown, readonly localAddress?: string, readonly localPort?: number }} options
+ * @param {import("./uri.js").TurnUri[]} uris
+ */
+function socketOf({ socket, localAddress, localPort }, uris) {
+    if (socket === undefined) {
+        return undefined;
+    }
+    if (uris.length !== 1 || localAddress !== undefined || localPort !== undefined) {
+        throw new TypeError("a socket is for one URI, and has an address of its own");
+    }
+    const isFit = uris[0].transport === "udp" ? socket instanceof dgram.Socket
+        : socket instanceof net.Socket && !socket.connecting && socket.readableEncoding === null;
+    if (!isFit) {
+        const kind = uris[0].transport === "udp" ? "dgram" : "net that is connected, and has no encoding";
+        throw new TypeError(`${uris[0].text} needs a socket of ${kind}`);
+    }
+    if (isUsed(/** @type {object} */ (socket))) {
+        throw new TypeError("the socket is that of another relay, or was");
+    }
+    return /** @type {import("node:dgram").Socket | import("node:net").Socket} */ (socket);
 }
 
 /**
@@ -101,8 +168,9 @@ export function peerOf(port, address) {
 }
 
 /**
- * Data to send as bytes. TypeError where it is none.
+ * Data to send as bytes: several parts make one datagram. TypeError where it is none.
  * @param {unknown} data
+ * @returns {Uint8Array}
  */
 export function dataOf(data) {
     if (typeof data === "string") {
@@ -111,5 +179,38 @@ export function dataOf(data) {
     if (ArrayBuffer.isView(data)) {
         return data instanceof Uint8Array ? data : new Uint8Array(data.buffer, data.byteOffset, data.byteLength);
     }
-    throw new TypeError(`data is text, a Buffer or another view of bytes, and not ${typeof data}`);
+    if (Array.isArray(data)) {
+        return Buffer.concat(data.map(dataOf));
+    }
+    throw new TypeError(`data is text, a Buffer or another view of bytes, or a list of those, and not ${typeof data}`);
+}
+
+/**
+ * What `send` is called with, in one of the forms of `dgram`: data, and its offset and length where it is a part; a port and an IP
+ * address, or a peer; and a callback or `{ signal }`. TypeError and RangeError where it is none of them.
+ * @param {unknown[]} words
+ */
+export function sendWords([data, ...rest]) {
+    const bytes = dataOf(data), isPart = typeof rest[0] === "number" && typeof rest[1] === "number";
+    const [offset, length] = isPart ? rest.splice(0, 2).map(Number) : [0, bytes.length];
+    if (!Number.isInteger(offset) || !Number.isInteger(length) || offset < 0 || length < 0 || offset + length > bytes.length) {
+        throw new RangeError(`data has ${bytes.length} bytes, and not ${length} from ${offset} on`);
+    }
+    const [port, address] = typeof rest[0] === "object" ? [rest.shift(), undefined] : rest.splice(0, 2), peer = peerOf(port, address);
+    return { data: isPart ? bytes.subarray(offset, offset + length) : bytes, peer, ...howOf(rest) };
+}
+
+/**
+ * What stands behind the peer: a callback, or `{ signal }`.
+ * @param {unknown[]} words
+ * @returns {{ callback: ((error: Error | null) => void) | undefined, signal: AbortSignal | undefined }}
+ */
+function howOf([how]) {
+    if (typeof how === "function") {
+        return { callback: /** @type {(error: Error | null) => void} */ (how), signal: undefined };
+    }
+    if (how !== undefined && (typeof how !== "object" || how === null)) {
+        throw new TypeError(`behind the peer stands a callback, or { signal }, and not ${String(how)}`);
+    }
+    return { callback: undefined, signal: how && /** @type {{ signal?: AbortSignal }} */ (how).signal };
 }

@@ -3,13 +3,15 @@ import { randomBytes } from "../random.js";
 import { pause } from "./clock.js";
 import { Deferred } from "./deferred.js";
 import { METHOD, bareRequest, idText } from "./reasons.js";
+import { Standing } from "./standing.js";
 
 /** @typedef {import("../address.js").Address} Address */
 /**
- * What came of a check: whether the server has answered (one that answers no Binding request, as coturn with `--no-stun`, never
- * does), and this client's address as the server sees it now. Where that is another one than `mappedAddress()`, a NAT has forgotten
- * the client: the relayed address is lost (RFC 8656, section 3.2).
- * @typedef {{ isAnswered: boolean, mapped: Address | undefined }} Check
+ * What came of a check: whether the server has answered a Binding request (coturn with `--no-stun` never does); this client's address
+ * as the server sees it now; and whether it knows the relayed address, or undefined where it has not answered that. False is a server
+ * that was restarted, or one before which a NAT has forgotten the client, as `mapped` says by another address than `mappedAddress()`:
+ * the relayed address is lost (RFC 8656, section 3.2), so open a new relay.
+ * @typedef {{ isAnswered: boolean, mapped: Address | undefined, isAllocated: boolean | undefined }} Check
  */
 
 /** How long an answer is waited for, after each time that the request was sent, in milliseconds (RFC 8489, section 6.2.1). */
@@ -34,24 +36,27 @@ export class Path {
     #errors = 0;
     #isSuspicious = false;
     #session;
+    #standing;
 
     /** @param {import("./session.js").Session} session */
     constructor(session) {
         this.#session = session;
+        this.#standing = new Standing(session);
     }
 
     /**
-     * Asks the server for a sign of life. `Ended` where the client has ended.
+     * Asks the server for a sign of life, and whether it knows the relayed address. `Ended` where the client has ended.
      * @returns {Promise<Check>}
      */
-    check() {
-        return this.#ask(METHOD.BINDING);
+    async check() {
+        const standing = this.#standing.ask(), answer = await this.#ask(METHOD.BINDING);
+        return { ...answer, isAllocated: await standing };
     }
 
     /**
      * Asks by a request of this method, which nobody has signed, and without attributes.
      * @param {number} method
-     * @returns {Promise<Check>}
+     * @returns {Promise<{ isAnswered: boolean, mapped: Address | undefined }>}
      */
     async #ask(method) {
         const session = this.#session, id = randomBytes(12), key = keyOf(method, id);

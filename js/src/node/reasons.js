@@ -3,8 +3,9 @@ import { addressAt } from "../address.js";
 import { ADDRESS } from "../layout.js";
 import { attribute, parse } from "../message.js";
 
-/** Methods (RFC 8489, section 18.2; RFC 8656, section 17). */
-export const METHOD = Object.freeze({ BINDING: 0x001, ALLOCATE: 0x003, REFRESH: 0x004, CREATE_PERMISSION: 0x008, CHANNEL_BIND: 0x009 });
+/** Methods (RFC 8489, section 18.2; RFC 8656, section 17; RFC 6062, section 6.1). */
+export const METHOD = Object.freeze({ BINDING: 0x001, ALLOCATE: 0x003, REFRESH: 0x004, CREATE_PERMISSION: 0x008, CHANNEL_BIND: 0x009,
+    CONNECT: 0x00a, CONNECTION_BIND: 0x00b });
 /** Attributes (RFC 8489, section 18.3; RFC 8656, section 18). */
 const LIFETIME = 0x000d, XOR_PEER_ADDRESS = 0x0012;
 const COOKIE = Object.freeze([0x21, 0x12, 0xa4, 0x42]);
@@ -12,7 +13,7 @@ const COOKIE = Object.freeze([0x21, 0x12, 0xa4, 0x42]);
 /** @typedef {import("../library.js").Library} Library */
 /** @typedef {import("../message.js").Message} Message */
 /**
- * What a request is for: its method, and the IP address of a permission, or the peer of a channel. `text` names it.
+ * What a request is for: its method, and the IP address of a permission, or the peer of a channel or a connection. `text` names it.
  * @typedef {{ method: number, text: string, ip?: string, peer?: import("../address.js").Address }} Key
  */
 
@@ -34,6 +35,13 @@ export const permissionKey = (ip) => ({ method: METHOD.CREATE_PERMISSION, text: 
 export const channelKey = (peer) => ({ method: METHOD.CHANNEL_BIND, text: `channel ${peer.address} ${peer.port}`, peer });
 
 /**
+ * What a connection to a peer is asked for by.
+ * @param {import("../address.js").Address} peer
+ * @returns {Key}
+ */
+export const connectionKey = (peer) => ({ method: METHOD.CONNECT, text: `connection ${peer.address} ${peer.port}`, peer });
+
+/**
  * What all requests of a method are, that are for no peer.
  * @param {number} method
  * @returns {Key}
@@ -50,6 +58,9 @@ export function keyOf(library, message, packet) {
     const value = attribute(library, packet, XOR_PEER_ADDRESS), peer = value && xored(value, message.id);
     if (peer && message.method === METHOD.CREATE_PERMISSION) {
         return permissionKey(peer.address);
+    }
+    if (peer && message.method === METHOD.CONNECT) {
+        return connectionKey(peer);
     }
     return peer && message.method === METHOD.CHANNEL_BIND ? channelKey(peer) : methodKey(message.method);
 }

@@ -1,9 +1,11 @@
 // A relayed address for Node, used like a socket of dgram.
+import { ASYNC_DISPOSE } from "../dispose.js";
 import { Ended, Refused } from "../errors.js";
 import { abortable } from "./deferred.js";
-import { Messages } from "./messages.js";
+import { CHANNELS } from "./diagnostics.js";
 import { openSession } from "./opening.js";
 import { checkOptions, dataOf, ipOf, peerOf } from "./options.js";
+import { Sending } from "./sending.js";
 
 /** @typedef {import("../address.js").Address} Address */
 /** @typedef {import("../address.js").AddressLike} AddressLike */
@@ -13,7 +15,6 @@ import { checkOptions, dataOf, ipOf, peerOf } from "./options.js";
 const STREAM_PROBE = 15_000;
 /** So many losses are kept. */
 const MOST_LOST = 1_024;
-const ASYNC_DISPOSE = /** @type {{ asyncDispose?: symbol }} */ (Symbol).asyncDispose ?? Symbol.for("Symbol.asyncDispose");
 
 /**
  * A relayed address of a TURN server: peers send to it, and see data come from it.
@@ -32,9 +33,10 @@ const ASYNC_DISPOSE = /** @type {{ asyncDispose?: symbol }} */ (Symbol).asyncDis
  * - `close`: it has ended, by `close` or by itself. Nothing comes any more.
  * - `lost` (`{ what, ip }` or `{ what, peer }`): the server no longer renews a permission or a channel. It may have been restarted.
  * - `socketError` (an error): of a socket over UDP, which does not end the relay, as when a network goes.
+ * - `connection` (a `PeerStream`): a permitted peer has connected, over TCP. Without a listener up to 64 wait for one.
  * - `drain`: the socket was full, so that `sendTo` dropped data, and is no longer.
  */
-export class Relay extends Messages {
+export class Relay extends Sending {
     /**
      * The last 1,024 permissions and channels that the server no longer renews.
      * @type {import("./grants.js").Lost[]}
@@ -43,6 +45,7 @@ export class Relay extends Messages {
     /** How many packets of `sendTo` the socket did not take. What is lost further on, nobody counts. */
     unsent = 0;
     #family;
+    #allocation;
     /** @type {Session | undefined} */
     #session;
     /** How much had come when `send` was called last. */
@@ -65,16 +68,19 @@ export class Relay extends Messages {
         if (session.isOver) {
             throw session.ending();
         }
+        CHANNELS.open.publish({ relay });
         return relay;
     }
 
     /**
      * Use `Relay.open`.
-     * @param {{ queue: number, family: 4 | 6 }} options
+     * @param {{ queue: number, family: 4 | 6, allocation: "udp" | "tcp" }} options
      */
-    constructor({ queue, family }) {
+    constructor({ queue, family, allocation }) {
         super(queue);
         this.#family = family;
+        this.#allocation = allocation;
+        this.on("newListener", (name) => name === "connection" && process.nextTick(() => this.#emitConnections()));
     }
 
     /**
@@ -84,10 +90,11 @@ export class Relay extends Messages {
     #user() {
         return {
             put: (data, peer) => this.put(data, peer),
+            offered: (of) => of === this.#session && process.nextTick(() => this.#emitConnections()),
             lost: (of, lost) => this.#tellLost(of, lost),
             socketError: (of, error) => this.#tell(of, "socketError", error),
             drained: (of) => this.#tell(of, "drain"),
-            ended: (of, why) => of === this.#session && this.end(why),
+            ended: (of, why) => of === this.#session && this.#end(why),
         };
     }
 
@@ -101,13 +108,30 @@ export class Relay extends Messages {
             this.lost.shift();
         }
         this.#tell(of, "lost", lost);
+        CHANNELS.lost.publish({ relay: this, lost });
+    }
+
+    /** Emits the streams of peers that wait, each by itself: what a listener throws keeps none from the others. */
+    #emitConnections() {
+        const stream = this.listenerCount("connection") > 0 ? this.#session?.streams.accept() : undefined;
+        if (stream) {
+            process.nextTick(() => this.#emitConnections());
+            this.emit("connection", stream);
+        }
+    }
+
+    /** @param {Ended | undefined} why */
+    #end(why) {
+        this.end(why);
+        CHANNELS.end.publish({ relay: this, error: why });
     }
 
     /**
-     * Tells something of its session.
+     * Emits an event of its session.
+     * @template {keyof import("./events.js").RelayEvents} Name
      * @param {Session} of
-     * @param {string} name
-     * @param {unknown[]} words
+     * @param {Name} name
+     * @param {Parameters<import("./events.js").RelayEvents[Name]>} words
      */
     #tell(of, name, ...words) {
         if (of === this.#session) {
@@ -177,8 +201,26 @@ export class Relay extends Messages {
      */
     async bind(port, address, { signal } = {}) {
         const peer = peerOf(port, address), session = this.#open();
+        this.#checkAllocation("udp");
         this.#checkFamily(peer.address);
         await abortable(session.grants.bind(peer), signal);
+    }
+
+    /**
+     * Has the server connect to a peer over TCP (RFC 6062, section 4.3), which is permitted, and gives the stream to it when it is
+     * connected. TypeError where the relay was not opened with `allocation: "tcp"`. ConnectFailed where the peer or the server refuses
+     * it, or no data connection to the server can be opened; PermissionFailed, `Ended`; `Refused` where there is a stream to this peer,
+     * or one is being opened (`already-exists`), and where it has another family than the relayed address (`no-allocation`). A signal
+     * gives it up.
+     * @param {number | AddressLike} port
+     * @param {string} [address]
+     * @param {{ signal?: AbortSignal }} how
+     */
+    async connect(port, address, { signal } = {}) {
+        const peer = peerOf(port, address), session = this.#open();
+        this.#checkAllocation("tcp");
+        this.#checkFamily(peer.address);
+        return session.streams.connecting.connect(peer, signal);
     }
 
     /**
@@ -199,8 +241,9 @@ export class Relay extends Messages {
     }
 
     /**
-     * Asks the server for a sign of life, and this client's address as it sees it now: a Binding request (RFC 8489, section 3), which
-     * is sent three times over UDP, and is unanswered after 3.5 s. `Ended`.
+     * Asks the server for a sign of life, and this client's address as it sees it now, by a Binding request (RFC 8489, section 3),
+     * which is sent three times over UDP; and whether it knows the relayed address, by a permission for an address that no host has.
+     * What is unanswered after 3.5 s is said to be. `Ended`.
      */
     check() {
         return this.#open().path.check();
@@ -209,46 +252,39 @@ export class Relay extends Messages {
     // Data
 
     /**
-     * Sends data to a peer: requests its permission first, and waits where the socket is full. It does not wait for the data to
-     * arrive. Where nothing was received since the last call, it lets the program read first. A peer whose permission the server has
-     * refused is left alone for five seconds, then for ten, up to 80: until then PermissionFailed comes at once. PermissionFailed,
-     * `Ended`; `Refused` (`no-allocation`) for another family than that of the relayed address; RangeError for data that does not
-     * fit. With a callback it gives no promise, and errors go there, as with `dgram`.
-     * @param {string | NodeJS.ArrayBufferView} data
-     * @param {number | AddressLike} port
-     * @param {string | ((error: Error | null) => void)} [address]
-     * @param {(error: Error | null) => void} [callback]
-     * @returns {Promise<void> | undefined}
+     * @param {Uint8Array} data
+     * @param {Address} peer
+     * @param {AbortSignal | undefined} signal
+     * @protected
      */
-    send(data, port, address, callback) {
-        const told = typeof address === "function" ? address : callback, ip = typeof address === "function" ? undefined : address;
-        const sent = this.#send(data, port, ip);
-        if (!told) {
-            return sent;
+    async sendWhenPermitted(data, peer, signal) {
+        try {
+            await this.#send(data, peer, signal);
+        } catch (error) {
+            CHANNELS.sendFailed.hasSubscribers && CHANNELS.sendFailed.publish({ relay: this, peer, error });
+            throw error;
         }
-        sent.then(() => process.nextTick(told, null), (error) => process.nextTick(told, error));
-        return undefined;
     }
 
     /**
-     * @param {string | NodeJS.ArrayBufferView} data
-     * @param {number | AddressLike} port
-     * @param {string | undefined} address
+     * @param {Uint8Array} data
+     * @param {Address} peer
+     * @param {AbortSignal | undefined} signal
      */
-    async #send(data, port, address) {
-        const bytes = dataOf(data), peer = peerOf(port, address), session = this.#open();
+    async #send(data, peer, signal) {
+        const session = this.#open();
         if (this.#count === session.count) {
             await new Promise((resolve) => setImmediate(resolve));
         }
         this.#count = session.count;
         try {
-            await this.#sendInRoom(bytes, peer, session);
+            await this.#sendInRoom(data, peer, session, signal);
         } catch (error) {
             if (!(error instanceof Refused) || error.reason !== "no-permission") {
                 throw error;
             }
-            await session.grants.permitToSend(peer.address);
-            await this.#sendInRoom(bytes, peer, session);
+            await abortable(session.grants.permitToSend(peer.address), signal);
+            await this.#sendInRoom(data, peer, session, signal);
         }
     }
 
@@ -257,10 +293,11 @@ export class Relay extends Messages {
      * @param {Uint8Array} bytes
      * @param {Address} peer
      * @param {Session} session
+     * @param {AbortSignal | undefined} signal
      */
-    async #sendInRoom(bytes, peer, session) {
+    async #sendInRoom(bytes, peer, session, signal) {
         do {
-            await session.link.hasRoom();
+            await abortable(session.link.hasRoom(), signal);
         } while (!this.#sendNow(bytes, peer));
     }
 
@@ -268,7 +305,7 @@ export class Relay extends Messages {
      * Sends data to a peer that has a permission, at once, as a datagram: where the socket is full, it is dropped and counted, and
      * false is returned. With its header a message has at most 65,507 bytes: data has up to 65,500 for a peer with a channel, else
      * 65,468, and for an IPv6 peer 65,456. `Refused` (`no-permission`; `no-allocation` for another family), `Ended`; RangeError.
-     * @param {string | NodeJS.ArrayBufferView} data
+     * @param {import("./sending.js").Data} data
      * @param {number | AddressLike} port
      * @param {string} [address]
      */
@@ -284,8 +321,20 @@ export class Relay extends Messages {
      */
     #sendNow(bytes, peer) {
         const session = this.#open();
+        this.#checkAllocation("udp");
         this.#checkFamily(peer.address);
         return session.sendData(bytes, peer);
+    }
+
+    /**
+     * Refuses a call that the transport between server and peers has not.
+     * @param {"udp" | "tcp"} needed
+     */
+    #checkAllocation(needed) {
+        if (this.#allocation !== needed) {
+            throw new TypeError(needed === "tcp" ? 'streams need a relay that was opened with allocation: "tcp" (RFC 6062)'
+                : 'a relay with allocation: "tcp" has no datagrams: use connect, and what it gives');
+        }
     }
 
     /**
@@ -304,12 +353,27 @@ export class Relay extends Messages {
 
     /**
      * Gives the relayed address back, closes the socket, and returns when the server has answered, or after two seconds. A second
-     * time it waits for the first.
+     * time it waits for the first. A callback is called then, too, as with `dgram`. TypeError where it is no function.
+     * @param {() => void} [callback]
      */
-    async close() {
+    async close(callback) {
+        if (callback !== undefined && typeof callback !== "function") {
+            throw new TypeError(`callback is a function, and not ${typeof callback}`);
+        }
         await this.#session?.leave();
+        callback && process.nextTick(callback);
     }
 
+    /**
+     * Gives the relayed address back by one packet, and closes the socket at once, for a program that ends now: no answer is waited for,
+     * and over UDP that packet may be lost, after which the server keeps the relayed address until it expires. After `close` was called
+     * it ends the waiting of that. It throws nothing.
+     */
+    abandon() {
+        this.#session?.abandon();
+    }
+
+    /** The same as `close`, for `await using`. */
     [ASYNC_DISPOSE]() {
         return this.close();
     }

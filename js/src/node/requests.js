@@ -9,8 +9,10 @@ import { METHOD, idText, keyOf } from "./reasons.js";
  * @typedef {"unsent" | "asked-before" | "granted"} Made
  */
 /**
- * The last request of a key that was sent: the error that was seen, whether a success was, and what that grants, in seconds.
- * @typedef {{ id: string, key: Key, error: Hint | undefined, isGranted: boolean, lifetime: number | undefined }} Asked
+ * The last request of a key that was sent: the error that was seen, whether a success was, what that grants, in seconds, when it was
+ * sent first, and how many milliseconds an answer took.
+ * @typedef {{ id: string, key: Key, error: Hint | undefined, isGranted: boolean, lifetime: number | undefined, sent: number,
+ *     took: number }} Asked
  */
 
 /** So many requests wait to be sent at a time: the time of each begins when it is made, and a pause lies between two of them. */
@@ -39,10 +41,15 @@ export class Requests {
      */
     #byId = new Map();
     #library;
+    #clock;
 
-    /** @param {import("../library.js").Library} library */
-    constructor(library) {
+    /**
+     * @param {import("../library.js").Library} library
+     * @param {import("./clock.js").Clock} clock
+     */
+    constructor(library, clock) {
         this.#library = library;
+        this.#clock = clock;
     }
 
     /**
@@ -103,7 +110,7 @@ export class Requests {
         const key = keyOf(this.#library, message, packet);
         this.allocates += key.method === METHOD.ALLOCATE ? 1 : 0;
         this.#forget(this.#asked.get(key.text));
-        const asked = { id, key, error: undefined, isGranted: false, lifetime: undefined };
+        const asked = { id, key, error: undefined, isGranted: false, lifetime: undefined, sent: this.#clock.now(), took: 0 };
         this.#asked.set(key.text, asked);
         this.#byId.set(id, asked);
         if (this.#asked.size > MOST_REMEMBERED) {

@@ -1,16 +1,20 @@
 // One client over one link: it transmits, takes what comes, tells the events, and sets the timer. Its state is one word.
-import { AllocationFailed, Ended, LibraryError, YarrowdoorError } from "../errors.js";
+import { AllocationFailed, Ended, LibraryError, OutOfMemory, YarrowdoorError } from "../errors.js";
 import { MAX_OVERHEAD } from "../layout.js";
+import { moduleOf } from "../library.js";
 import { parse } from "../message.js";
 import { Alarm } from "./clock.js";
 import { Deferred, within } from "./deferred.js";
 import { Diagnosis } from "./diagnosis.js";
+import { CHANNELS, publishMessage } from "./diagnostics.js";
 import { Grants } from "./grants.js";
 import { Hearing } from "./hearing.js";
+import { Keeping } from "./keeping.js";
 import { Path } from "./path.js";
 import { channelKey, permissionKey } from "./reasons.js";
 import { Requests } from "./requests.js";
 import { SHORTAGE_WAIT, Shortage } from "./shortage.js";
+import { Streams } from "./streams.js";
 import { Waiting } from "./state.js";
 
 /** @typedef {import("../address.js").Address} Address */
@@ -18,6 +22,8 @@ import { Waiting } from "./state.js";
 
 /** How long the server's answer to a delete is waited for, in milliseconds. */
 const DELETE_WAIT = 2_000;
+/** The part of it for which streams may still send what was written, in milliseconds. */
+const CLOSING = 1_500;
 /** A datagram carries so many bytes, and coturn reads no longer message of a stream. */
 const MAX_MESSAGE = 65_507;
 
@@ -53,26 +59,33 @@ export class Session {
     /** @type {Ended | undefined} */
     #why;
     #shortage = new Shortage();
+    #module;
     #isDriving = false;
+    /** When the timer is to come. */
+    #due = 0;
 
     /**
      * @param {import("../client.js").Client} client
      * @param {import("./link.js").Link} link
      * @param {import("./uri.js").TurnUri} uri
-     * @param {{ library: import("../library.js").Library, clock: import("./clock.js").Clock, maxStaleNonces: number }} what
+     * @param {{ library: import("../library.js").Library, clock: import("./clock.js").Clock, maxStaleNonces: number, pause: number,
+     *     refreshAhead: number, connectTo: import("./state.js").ConnectTo }} what
      * @param {SessionUser} user
      */
-    constructor(client, link, uri, { library, clock, maxStaleNonces }, user) {
+    constructor(client, link, uri, { library, clock, maxStaleNonces, connectTo, ...pauses }, user) {
         this.client = client;
         this.link = link;
         this.uri = uri;
         this.library = library;
+        this.#module = moduleOf(library);
         this.clock = clock;
         this.user = user;
         this.alarm = new Alarm(clock, () => this.#wake());
-        this.requests = new Requests(library);
+        this.requests = new Requests(library, clock);
+        this.keeping = new Keeping(library, pauses);
         this.diagnosis = new Diagnosis(uri.text, maxStaleNonces, clock, this.requests, library);
         this.grants = new Grants(() => this.usable(), () => this.drive(), clock, this.requests, (lost) => this.user.lost(this, lost));
+        this.streams = new Streams(this, connectTo);
         this.path = new Path(this);
         this.hearing = new Hearing(this);
         link.user = this;
@@ -104,7 +117,7 @@ export class Session {
      */
     #passIn(data) {
         try {
-            return this.client.recvFrom(this.library.inputOf(data), 0, data.length, this.clock.now());
+            return this.client.recvFrom(this.#module.inputOf(data), 0, data.length, this.clock.now());
         } catch (error) {
             return this.#shortage.note(error);
         }
@@ -131,8 +144,47 @@ export class Session {
     /** Takes all data that the stream still has. */
     #takeRest() {
         for (let more; !this.isOver && (more = this.#shortage.guarded(() => this.client.pollRecv(this.clock.now()))); ) {
+            if (more.transport === "tcp") {
+                this.streams.feed(bufferOf(more.data), more.peer);
+                continue;
+            }
             this.user.put(bufferOf(more.data), more.peer);
         }
+    }
+
+    // Data connections
+
+    /**
+     * Passes in what came over a data connection. Where the module has no memory for it, its stream has lost it, and ends.
+     * @param {import("./connection.js").Connection} connection
+     * @param {Buffer} data
+     */
+    receivedOver(connection, data) {
+        const { link, isBound, frames } = connection;
+        this.isOver || this.#orEnd(() => {
+            const answer = this.#shortage.guarded(() => this.client.recv(data, this.clock.now(), { remote: link.remote, local: link.local }));
+            if (!answer) {
+                connection.lose(new OutOfMemory());
+            } else if (answer.kind === "peer-data") {
+                this.streams.feed(bufferOf(answer.data), answer.peer);
+            }
+            isBound || this.hearing.hear(data, answer?.kind === "ignored", frames);
+            this.#takeRest();
+            this.drive();
+        });
+    }
+
+    /**
+     * A data connection has ended.
+     * @param {import("./data-link.js").DataLink} link
+     */
+    endedOver({ local, remote }) {
+        this.#orEnd(() => {
+            this.#shortage.guarded(() => this.client.recv(new Uint8Array(), this.clock.now(), { remote, local }));
+            this.#takeRest();
+            this.#shortage.guarded(() => this.client.tcpClosed(local, remote, this.clock.now()));
+            this.drive();
+        });
     }
 
     /**
@@ -197,8 +249,8 @@ export class Session {
      * @param {Address} peer
      */
     sendData(data, peer) {
-        const { library, clock } = this, { length } = data, input = library.inputOf(data);
-        const packet = this.client.sendFrom(peer, input, 0, length, clock.now(), library.outputOf(length + MAX_OVERHEAD));
+        const { clock } = this, module = this.#module, { length } = data, input = module.inputOf(data);
+        const packet = this.client.sendFrom(peer, input, 0, length, clock.now(), module.outputOf(length + MAX_OVERHEAD));
         if (packet.length > MAX_MESSAGE) {
             throw new RangeError(`the message to ${peer.address} has ${packet.length} bytes with its header, and at most ${MAX_MESSAGE} fit`);
         }
@@ -241,7 +293,7 @@ export class Session {
     #step() {
         const now = this.clock.now();
         for (let packet; !this.isOver && (packet = this.#shortage.guarded(() => this.client.pollTransmit(now))); ) {
-            this.#transmit(packet.data);
+            this.#transmit(packet);
         }
         this.#takeEvents();
         const rest = this.isOver ? undefined : this.#shortage.guarded(() => this.client.poll(now)), shortage = this.#shortage.take();
@@ -251,23 +303,35 @@ export class Session {
             this.end(this.state === "leaving" ? undefined : this.diagnosis.ended());
             return false;
         }
+        if (rest?.kind === "allocate-tcp-socket") {
+            void this.streams.open(rest);
+        } else if (rest?.kind === "tcp-close") {
+            this.streams.drop(rest.local);
+        }
         const until = shortage ? now + SHORTAGE_WAIT : rest?.kind === "wait-until" ? Number(rest.until) : now;
         if (until > now) {
+            this.#due = until;
             this.alarm.set(until);
         }
         return until <= now;
     }
 
-    /** @param {Uint8Array} packet */
-    #transmit(packet) {
-        const message = parse(this.library, packet);
+    /**
+     * Sends a packet over the connection that it is for. One for a data connection that is closed is dropped.
+     * @param {import("../answers.js").Packet} packet
+     */
+    #transmit({ data, local }) {
+        const message = parse(this.library, data);
         if (message?.kind === "message") {
-            this.requests.sent(packet, message);
+            this.requests.sent(data, message);
         }
-        this.link.send(packet);
+        publishMessage(CHANNELS.sent, this.uri, data);
+        const link = local.port === this.link.local.port ? this.link : this.streams.at(local)?.link;
+        link?.send(data);
     }
 
     #wake() {
+        this.keeping.woke(this.clock.now() - this.#due);
         this.diagnosis.begins();
         this.drive();
     }
@@ -283,10 +347,12 @@ export class Session {
         switch (event.kind) {
             case "allocation-created": return this.#allocated(event.address);
             case "allocation-create-failed": return this.waiting.fail(this.diagnosis.noAddress());
-            case "permission-created": return this.grants.created(permissionKey(event.ip));
+            case "permission-created": return this.#granted(permissionKey(event.ip));
             case "permission-create-failed": return this.#lost(permissionKey(event.ip));
-            case "channel-created": return this.grants.created(channelKey(event.peer));
+            case "channel-created": return this.#granted(channelKey(event.peer));
             case "channel-create-failed": return this.#lost(channelKey(event.peer));
+            case "tcp-connected": return this.streams.connected(event.peer);
+            case "tcp-connect-failed": return this.streams.connecting.failed(event.peer);
         }
     }
 
@@ -299,6 +365,13 @@ export class Session {
             this.state = "open";
             this.waiting.succeed();
         }
+    }
+
+    /** @param {import("./reasons.js").Key} key */
+    #granted(key) {
+        this.grants.created(key);
+        this.keeping.granted(this.requests.last(key)?.took ?? 0);
+        this.keeping.check(this.grants.count + 1); // the relayed address is one, too
     }
 
     /** @param {import("./reasons.js").Key} key */
@@ -329,13 +402,38 @@ export class Session {
             const wasOpen = this.state === "open";
             this.waiting.fail(new AllocationFailed("the client was closed"));
             this.state = "leaving";
-            if (wasOpen) {
+            const closing = wasOpen ? this.streams.close() : undefined;
+            if (closing) {
+                void within(closing, CLOSING).then(() => this.#deleteLate());
+            } else if (wasOpen) {
                 this.#delete();
             }
             this.drive();
         }
         await within(this.over.promise, DELETE_WAIT);
         this.end(undefined);
+    }
+
+    /**
+     * Gives the relayed address back by one packet, and ends at once: no answer is waited for. Where the module has no memory for it,
+     * the server keeps it until it expires.
+     */
+    abandon() {
+        if (!this.isOver) {
+            this.#orEnd(() => {
+                const packet = this.#shortage.guarded(() => this.client.abandon(this.clock.now()));
+                packet && this.#transmit(packet);
+            });
+            this.end(undefined);
+        }
+    }
+
+    /** Gives the relayed address back when its streams are gone: a server ends those that there are with it. */
+    #deleteLate() {
+        if (!this.isOver) {
+            this.#orEnd(() => this.#delete());
+            this.drive();
+        }
     }
 
     #delete() {
@@ -364,6 +462,7 @@ export class Session {
         this.link.close();
         this.client.close();
         this.requests.end(() => this.ending());
+        this.streams.end(() => why && this.ending());
         this.over.resolve();
         this.user.ended(this, why);
     }

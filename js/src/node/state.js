@@ -5,10 +5,14 @@ import { Deferred } from "./deferred.js";
 /** @typedef {import("./session.js").Session} Session */
 /**
  * Who has a session, and is told what happens: data of peers, what is lost, errors of the socket that do not end it, that there is
- * room again, and the end: why, or undefined where the user has closed it.
- * @typedef {{ put(data: Buffer, peer: Address): void, lost(of: Session, lost: import("./grants.js").Lost): void,
+ * room again, that a peer has connected, and the end: why, or undefined where the user has closed it.
+ * @typedef {{ put(data: Buffer, peer: Address): void, offered(of: Session): void, lost(of: Session, lost: import("./grants.js").Lost): void,
  *     socketError(of: Session, error: Error): void, drained(of: Session): void,
  *     ended(of: Session, why: import("../errors.js").Ended | undefined): void }} SessionUser
+ */
+/**
+ * Opens a data connection to the server, over TLS where the server is reached so.
+ * @typedef {(signal: AbortSignal) => Promise<import("./data-link.js").DataLink>} ConnectTo
  */
 /**
  * `opening`: the server was asked for a relayed address; `open`: there is one; `leaving`: it is given back; `over`: the client has

@@ -8,6 +8,8 @@ export class Grants {
      * @param {(lost: Lost) => void} tellLost
      */
     constructor(usable: () => import("../client.js").Client, drive: () => void, clock: import("./clock.js").Clock, requests: import("./requests.js").Requests, tellLost: (lost: Lost) => void);
+    /** How many permissions and channels there are. */
+    get count(): number;
     /**
      * Asks for a permission, unless there is one, and waits for the answer.
      * @param {string} given an IP address in any spelling: events have the canonical one

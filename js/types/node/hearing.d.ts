@@ -12,7 +12,9 @@ export class Hearing {
      * Reads what messages say, after the client has taken them, or ignored the first one.
      * @param {Uint8Array} data
      * @param {boolean} isIgnored
+     * @param {Frames} frames those of the connection that they came over
      */
-    hear(data: Uint8Array, isIgnored: boolean): void;
+    hear(data: Uint8Array, isIgnored: boolean, frames?: Frames): void;
     #private;
 }
+import { Frames } from "./reasons.js";

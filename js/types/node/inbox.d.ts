@@ -1,5 +1,9 @@
 /** @typedef {import("../address.js").Address} Address */
-/** @typedef {[data: Buffer, peer: Address]} Packet */
+/**
+ * Who sent data, and how many bytes it has, as `dgram` says it.
+ * @typedef {Address & { readonly size: number }} RemoteInfo
+ */
+/** @typedef {[data: Buffer, peer: RemoteInfo]} Packet */
 /** A queue of at most so many packets. A further one is dropped, and counted. */
 export class Inbox {
     /** @param {number} size */
@@ -8,9 +12,9 @@ export class Inbox {
     dropped: number;
     /**
      * @param {Buffer} data
-     * @param {Address} peer
+     * @param {RemoteInfo} peer
      */
-    put(data: Buffer, peer: Address): void;
+    put(data: Buffer, peer: RemoteInfo): void;
     /**
      * The next packet, if one waits.
      * @returns {Packet | undefined}
@@ -23,4 +27,10 @@ export class Inbox {
     #private;
 }
 export type Address = import("../address.js").Address;
-export type Packet = [data: Buffer, peer: Address];
+/**
+ * Who sent data, and how many bytes it has, as `dgram` says it.
+ */
+export type RemoteInfo = Address & {
+    readonly size: number;
+};
+export type Packet = [data: Buffer, peer: RemoteInfo];

@@ -1,11 +1,21 @@
+/**
+ * Where a socket over UDP is connected to, or undefined where it is not.
+ * @param {import("node:dgram").Socket} socket
+ */
+export function remoteOf(socket: import("node:dgram").Socket): {
+    address: string;
+    port: number;
+} | undefined;
 /** A socket over UDP, that is connected: what comes is from the server. */
 export class DatagramLink {
     /**
+     * Connects a socket to the server: a new one, or that of the user.
      * @param {string} host
      * @param {number} port
      * @param {AbortSignal | undefined} signal
+     * @param {Own} own
      */
-    static connect(host: string, port: number, signal: AbortSignal | undefined): Promise<DatagramLink>;
+    static connect(host: string, port: number, signal: AbortSignal | undefined, { local, socket: given }?: Own): Promise<DatagramLink>;
     /** @param {import("node:dgram").Socket} socket */
     constructor(socket: import("node:dgram").Socket);
     isStream: boolean;
@@ -39,8 +49,9 @@ export class StreamLink {
      * @param {number} port
      * @param {import("node:tls").ConnectionOptions | undefined} secure options of TLS, if that is used
      * @param {AbortSignal | undefined} signal
+     * @param {Own} own
      */
-    static connect(host: string, port: number, secure: import("node:tls").ConnectionOptions | undefined, signal: AbortSignal | undefined): Promise<StreamLink>;
+    static connect(host: string, port: number, secure: import("node:tls").ConnectionOptions | undefined, signal: AbortSignal | undefined, { local, socket: given }?: Own): Promise<StreamLink>;
     /** @param {import("node:net").Socket} socket */
     constructor(socket: import("node:net").Socket);
     isStream: boolean;
@@ -77,3 +88,10 @@ export type LinkUser = {
     drained(): void;
 };
 export type Link = DatagramLink | StreamLink;
+/**
+ * What the user says of the socket: its own address, or a socket in place of a new one.
+ */
+export type Own = {
+    readonly local?: import("./options.js").Local;
+    readonly socket?: import("node:dgram").Socket | import("node:net").Socket;
+};

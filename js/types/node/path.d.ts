@@ -3,7 +3,7 @@ export class Path {
     /** @param {import("./session.js").Session} session */
     constructor(session: import("./session.js").Session);
     /**
-     * Asks the server for a sign of life. `Ended` where the client has ended.
+     * Asks the server for a sign of life, and whether it knows the relayed address. `Ended` where the client has ended.
      * @returns {Promise<Check>}
      */
     check(): Promise<Check>;
@@ -28,11 +28,13 @@ export class Path {
 }
 export type Address = import("../address.js").Address;
 /**
- * What came of a check: whether the server has answered (one that answers no Binding request, as coturn with `--no-stun`, never
- * does), and this client's address as the server sees it now. Where that is another one than `mappedAddress()`, a NAT has forgotten
- * the client: the relayed address is lost (RFC 8656, section 3.2).
+ * What came of a check: whether the server has answered a Binding request (coturn with `--no-stun` never does); this client's address
+ * as the server sees it now; and whether it knows the relayed address, or undefined where it has not answered that. False is a server
+ * that was restarted, or one before which a NAT has forgotten the client, as `mapped` says by another address than `mappedAddress()`:
+ * the relayed address is lost (RFC 8656, section 3.2), so open a new relay.
  */
 export type Check = {
     isAnswered: boolean;
     mapped: Address | undefined;
+    isAllocated: boolean | undefined;
 };

@@ -18,17 +18,20 @@ export function lifetimeOf(library: Library, packet: Uint8Array): number | undef
  * @param {Uint8Array} id
  */
 export function bareRequest(method: number, id: Uint8Array): Uint8Array;
-/** Methods (RFC 8489, section 18.2; RFC 8656, section 17). */
+/** Methods (RFC 8489, section 18.2; RFC 8656, section 17; RFC 6062, section 6.1). */
 export const METHOD: Readonly<{
     BINDING: 1;
     ALLOCATE: 3;
     REFRESH: 4;
     CREATE_PERMISSION: 8;
     CHANNEL_BIND: 9;
+    CONNECT: 10;
+    CONNECTION_BIND: 11;
 }>;
 export function idText(id: Uint8Array): string;
 export function permissionKey(ip: string): Key;
 export function channelKey(peer: import("../address.js").Address): Key;
+export function connectionKey(peer: import("../address.js").Address): Key;
 export function methodKey(method: number): Key;
 export function isAboutCredentials(code: number): boolean;
 export function isChallenge(code: number): boolean;
@@ -55,7 +58,7 @@ export class Frames {
 export type Library = import("../library.js").Library;
 export type Message = import("../message.js").Message;
 /**
- * What a request is for: its method, and the IP address of a permission, or the peer of a channel. `text` names it.
+ * What a request is for: its method, and the IP address of a permission, or the peer of a channel or a connection. `text` names it.
  */
 export type Key = {
     method: number;

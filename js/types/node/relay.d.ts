@@ -15,9 +15,10 @@
  * - `close`: it has ended, by `close` or by itself. Nothing comes any more.
  * - `lost` (`{ what, ip }` or `{ what, peer }`): the server no longer renews a permission or a channel. It may have been restarted.
  * - `socketError` (an error): of a socket over UDP, which does not end the relay, as when a network goes.
+ * - `connection` (a `PeerStream`): a permitted peer has connected, over TCP. Without a listener up to 64 wait for one.
  * - `drain`: the socket was full, so that `sendTo` dropped data, and is no longer.
  */
-export class Relay extends Messages {
+export class Relay extends Sending {
     /**
      * Connects to the server, and waits for a relayed address. TypeError and RangeError for options that are none; AllocationFailed
      * where there is no relayed address, and WrongCredentials where it is for user name or password; the reason of `signal`, after
@@ -27,11 +28,12 @@ export class Relay extends Messages {
     static open(options: import("./options.js").RelayOptions): Promise<Relay>;
     /**
      * Use `Relay.open`.
-     * @param {{ queue: number, family: 4 | 6 }} options
+     * @param {{ queue: number, family: 4 | 6, allocation: "udp" | "tcp" }} options
      */
-    constructor({ queue, family }: {
+    constructor({ queue, family, allocation }: {
         queue: number;
         family: 4 | 6;
+        allocation: "udp" | "tcp";
     });
     /**
      * The last 1,024 permissions and channels that the server no longer renews.
@@ -74,6 +76,19 @@ export class Relay extends Messages {
         signal?: AbortSignal;
     }): Promise<void>;
     /**
+     * Has the server connect to a peer over TCP (RFC 6062, section 4.3), which is permitted, and gives the stream to it when it is
+     * connected. TypeError where the relay was not opened with `allocation: "tcp"`. ConnectFailed where the peer or the server refuses
+     * it, or no data connection to the server can be opened; PermissionFailed, `Ended`; `Refused` where there is a stream to this peer,
+     * or one is being opened (`already-exists`), and where it has another family than the relayed address (`no-allocation`). A signal
+     * gives it up.
+     * @param {number | AddressLike} port
+     * @param {string} [address]
+     * @param {{ signal?: AbortSignal }} how
+     */
+    connect(port: number | AddressLike, address?: string | undefined, { signal }?: {
+        signal?: AbortSignal;
+    }): Promise<import("./peer-stream.js").PeerStream>;
+    /**
      * Lets go what a peer was granted: of an IP address its permission, of a peer its channel. It is used as before, and refreshed
      * no more, so that it ends after 5 or 10 minutes, which `lost` does not tell. `Refused` (`not-granted`) where there is none.
      * @param {string | AddressLike} about
@@ -85,44 +100,41 @@ export class Relay extends Messages {
      */
     keep(about: string | AddressLike): void;
     /**
-     * Asks the server for a sign of life, and this client's address as it sees it now: a Binding request (RFC 8489, section 3), which
-     * is sent three times over UDP, and is unanswered after 3.5 s. `Ended`.
+     * Asks the server for a sign of life, and this client's address as it sees it now, by a Binding request (RFC 8489, section 3),
+     * which is sent three times over UDP; and whether it knows the relayed address, by a permission for an address that no host has.
+     * What is unanswered after 3.5 s is said to be. `Ended`.
      */
     check(): Promise<import("./path.js").Check>;
-    /**
-     * Sends data to a peer: requests its permission first, and waits where the socket is full. It does not wait for the data to
-     * arrive. Where nothing was received since the last call, it lets the program read first. A peer whose permission the server has
-     * refused is left alone for five seconds, then for ten, up to 80: until then PermissionFailed comes at once. PermissionFailed,
-     * `Ended`; `Refused` (`no-allocation`) for another family than that of the relayed address; RangeError for data that does not
-     * fit. With a callback it gives no promise, and errors go there, as with `dgram`.
-     * @param {string | NodeJS.ArrayBufferView} data
-     * @param {number | AddressLike} port
-     * @param {string | ((error: Error | null) => void)} [address]
-     * @param {(error: Error | null) => void} [callback]
-     * @returns {Promise<void> | undefined}
-     */
-    send(data: string | NodeJS.ArrayBufferView, port: number | AddressLike, address?: string | ((error: Error | null) => void) | undefined, callback?: ((error: Error | null) => void) | undefined): Promise<void> | undefined;
     /**
      * Sends data to a peer that has a permission, at once, as a datagram: where the socket is full, it is dropped and counted, and
      * false is returned. With its header a message has at most 65,507 bytes: data has up to 65,500 for a peer with a channel, else
      * 65,468, and for an IPv6 peer 65,456. `Refused` (`no-permission`; `no-allocation` for another family), `Ended`; RangeError.
-     * @param {string | NodeJS.ArrayBufferView} data
+     * @param {import("./sending.js").Data} data
      * @param {number | AddressLike} port
      * @param {string} [address]
      */
-    sendTo(data: string | NodeJS.ArrayBufferView, port: number | AddressLike, address?: string | undefined): boolean;
+    sendTo(data: import("./sending.js").Data, port: number | AddressLike, address?: string | undefined): boolean;
     /**
      * Gives the relayed address back, closes the socket, and returns when the server has answered, or after two seconds. A second
-     * time it waits for the first.
+     * time it waits for the first. A callback is called then, too, as with `dgram`. TypeError where it is no function.
+     * @param {() => void} [callback]
      */
-    close(): Promise<void>;
+    close(callback?: (() => void) | undefined): Promise<void>;
+    /**
+     * Gives the relayed address back by one packet, and closes the socket at once, for a program that ends now: no answer is waited for,
+     * and over UDP that packet may be lost, after which the server keeps the relayed address until it expires. After `close` was called
+     * it ends the waiting of that. It throws nothing.
+     */
+    abandon(): void;
     /** Has the relay keep the program running, as it does at first. */
     ref(): Relay;
     /** Lets the program end although the relay is open. The server then keeps the relayed address for up to ten minutes. */
     unref(): Relay;
+    /** The same as `close`, for `await using`. */
+    [Symbol.asyncDispose](): Promise<void>;
     #private;
 }
 export type Address = import("../address.js").Address;
 export type AddressLike = import("../address.js").AddressLike;
 export type Session = import("./session.js").Session;
-import { Messages } from "./messages.js";
+import { Sending } from "./sending.js";

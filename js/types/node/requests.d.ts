@@ -1,7 +1,10 @@
 /** The requests of a client: who waits for them, and what the server has answered. */
 export class Requests {
-    /** @param {import("../library.js").Library} library */
-    constructor(library: import("../library.js").Library);
+    /**
+     * @param {import("../library.js").Library} library
+     * @param {import("./clock.js").Clock} clock
+     */
+    constructor(library: import("../library.js").Library, clock: import("./clock.js").Clock);
     /** How many ALLOCATEs were sent: all but the first one are signed, and may have been granted. */
     allocates: number;
     /**
@@ -46,7 +49,8 @@ export type Hint = import("../errors.js").Hint;
  */
 export type Made = "unsent" | "asked-before" | "granted";
 /**
- * The last request of a key that was sent: the error that was seen, whether a success was, and what that grants, in seconds.
+ * The last request of a key that was sent: the error that was seen, whether a success was, what that grants, in seconds, when it was
+ * sent first, and how many milliseconds an answer took.
  */
 export type Asked = {
     id: string;
@@ -54,4 +58,6 @@ export type Asked = {
     error: Hint | undefined;
     isGranted: boolean;
     lifetime: number | undefined;
+    sent: number;
+    took: number;
 };

@@ -4,13 +4,17 @@ export class Session {
      * @param {import("../client.js").Client} client
      * @param {import("./link.js").Link} link
      * @param {import("./uri.js").TurnUri} uri
-     * @param {{ library: import("../library.js").Library, clock: import("./clock.js").Clock, maxStaleNonces: number }} what
+     * @param {{ library: import("../library.js").Library, clock: import("./clock.js").Clock, maxStaleNonces: number, pause: number,
+     *     refreshAhead: number, connectTo: import("./state.js").ConnectTo }} what
      * @param {SessionUser} user
      */
-    constructor(client: import("../client.js").Client, link: import("./link.js").Link, uri: import("./uri.js").TurnUri, { library, clock, maxStaleNonces }: {
+    constructor(client: import("../client.js").Client, link: import("./link.js").Link, uri: import("./uri.js").TurnUri, { library, clock, maxStaleNonces, connectTo, ...pauses }: {
         library: import("../library.js").Library;
         clock: import("./clock.js").Clock;
         maxStaleNonces: number;
+        pause: number;
+        refreshAhead: number;
+        connectTo: import("./state.js").ConnectTo;
     }, user: SessionUser);
     /** @type {import("./state.js").State} */
     state: import("./state.js").State;
@@ -41,13 +45,26 @@ export class Session {
     user: import("./state.js").SessionUser;
     alarm: Alarm;
     requests: Requests;
+    keeping: Keeping;
     diagnosis: Diagnosis;
     grants: Grants;
+    streams: Streams;
     path: Path;
     hearing: Hearing;
     get isOver(): boolean;
     /** @param {Buffer} data */
     received(data: Buffer): void;
+    /**
+     * Passes in what came over a data connection. Where the module has no memory for it, its stream has lost it, and ends.
+     * @param {import("./connection.js").Connection} connection
+     * @param {Buffer} data
+     */
+    receivedOver(connection: import("./connection.js").Connection, data: Buffer): void;
+    /**
+     * A data connection has ended.
+     * @param {import("./data-link.js").DataLink} link
+     */
+    endedOver({ local, remote }: import("./data-link.js").DataLink): void;
     /** @param {Error} error */
     refused(error: Error): void;
     /** @param {Error | undefined} error */
@@ -76,6 +93,11 @@ export class Session {
     /** Gives the relayed address back to the server, and ends when it has answered, or after two seconds. */
     leave(): Promise<void>;
     /**
+     * Gives the relayed address back by one packet, and ends at once: no answer is waited for. Where the module has no memory for it,
+     * the server keeps it until it expires.
+     */
+    abandon(): void;
+    /**
      * Closes all, with why it has ended by itself, or undefined where the user has closed it.
      * @param {Ended | undefined} why
      */
@@ -92,8 +114,10 @@ import { Waiting } from "./state.js";
 import { Deferred } from "./deferred.js";
 import { Alarm } from "./clock.js";
 import { Requests } from "./requests.js";
+import { Keeping } from "./keeping.js";
 import { Diagnosis } from "./diagnosis.js";
 import { Grants } from "./grants.js";
+import { Streams } from "./streams.js";
 import { Path } from "./path.js";
 import { Hearing } from "./hearing.js";
 import { AllocationFailed } from "../errors.js";
