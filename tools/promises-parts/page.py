@@ -18,9 +18,9 @@ SHORT = 60
 
 HEAD = """# Promises
 
-What is proved of each function, and the wrong bodies that show it. `tools/promises` makes this page from the contracts, the
-first sentences of doc comments, and the lines `promise` of edits; the gate compares it with them. `docs/GUARANTEES.md` says what
-the promises mean together, and what they do not say.
+What is proved of each function, and the wrong bodies that show it. `tools/promises --page` makes this page from the contracts, the
+first sentences of doc comments, and the lines `promise` of edits. `docs/GUARANTEES.md` has the promises of whole runs, and says what
+the others mean together, and what they do not say.
 
 Each row has a function by the path by which its caller names it, with a link to its file. A caller that meets the clauses under
 *requires* has those under *ensures*, for all inputs. They are shown by name. `answer` is about what a call returns and `after`
@@ -35,15 +35,6 @@ A wrong body is an edit of a function, which the contract of that function has t
 which are listed, and `tools/plants` those of `plants/`, which are counted.
 
 The crates: {crates}.
-"""
-
-RUNS = """
-## Whole runs: `replay`
-
-[`turn_client_proto::replay`](../{file}) makes a client and a list of calls on it. Its clauses are
-the promises of the README. Each is shown by a wrong body that breaks it; every wrong body of this page breaks {always}.
-A wrong machine changes the definitions and the code alike, so that the clause itself has to refuse it (`tools/machines`).
-
 """
 
 
@@ -170,51 +161,46 @@ def replay_in(made):
     raise LookupError("there is no function replay")
 
 
-def comment_of(root, file, name):
-    """The plain words of a definition: the comment above it."""
-    lines = (root / file).read_text(encoding="utf-8").split("\n")
-    at = next((at for at, line in enumerate(lines) if re.match(rf"(abbrev |unfoldable )?(pub )?{re.escape(name)}\b", line)), 0)
-    said = []
-    while at > 0 and lines[at - 1].startswith("-- "):
-        at -= 1
-        said.insert(0, lines[at][3:])
-    return " ".join(said)
-
-
-def words_of(doc):
-    """What a doc comment says of each clause, in items that begin with their names."""
-    found = {}
-    for names, said in re.findall(r"^- ((?:`\w+`(?:, )?)+): (.*?)(?=^- |^$|\Z)", doc, re.M | re.S):
-        found.update({name: sentence(said) for name in re.findall(r"\w+", names)})
-    return found
-
-
 def run_rows(root, made, edits):
     """The rows of the clauses of `replay`."""
     replay, text = replay_in(made)
-    definitions, machines, words = imported(text), machine_counts(root), words_of(replay.doc)
+    definitions, machines = imported(text), machine_counts(root)
     for it in [it for it in replay.clauses if not it.is_premise]:
         name = next(name for name in named_in(it.text, definitions) if name not in AROUND)
         shown = [link(edit.name, edit.file) for edit in edits if it.name in edit.clauses]
         if not shown and it.name not in ALWAYS:
             raise BadEdit(f"no edit shows the clause {it.name} of replay")
-        said = words.get(it.name) or comment_of(root, definitions[name], name)
-        count = str(machines.get(it.name, ""))
-        yield row(code(it.name), cell(said.rstrip(".")), link(name, definitions[name]), ", ".join(shown), count)
+        yield row(code(it.name), link(name, definitions[name]), ", ".join(shown), str(machines.get(it.name, "")))
+
+
+def shown_edits(root, made):
+    """The edits of each crate's must-fail/, its plants with their count, and all of these that show a promise."""
+    replay, _ = replay_in(made)
+    promised = [it.name for it in replay.clauses if not it.is_premise]
+    edits, plants = [edits_of(root, it, promised) for it in made], [plants_of(root, it, promised) for it in made]
+    return edits, plants, [it for some in edits for it in some] + [it for _, some in plants for it in some]
+
+
+def promising(root):
+    """The crates that promise something, and the names of the others."""
+    names = crates(root)
+    return [Crate(root, it) for it in names if not TESTS.fullmatch(it)], [it for it in names if TESTS.fullmatch(it)]
+
+
+def clauses(root):
+    """The table of the clauses of `replay`."""
+    made, _ = promising(root)
+    _, _, shown = shown_edits(root, made)
+    heads = ("clause", "definition", "wrong bodies", "wrong machines")
+    return "\n".join(table(heads, list(run_rows(root, made, shown))))
 
 
 def page(root):
     """The whole page."""
-    names = crates(root)
-    made = [Crate(root, it) for it in names if not TESTS.fullmatch(it)]
-    replay, _ = replay_in(made)
-    promised = [it.name for it in replay.clauses if not it.is_premise]
-    edits, plants = [edits_of(root, it, promised) for it in made], [plants_of(root, it, promised) for it in made]
-    shown = [it for some in edits for it in some] + [it for _, some in plants for it in some]
-    head = HEAD.format(crates=", ".join(f"[{it.name}](#{it.name})" for it in made))
-    lines = (head + RUNS.format(file=replay.file, always=" or ".join(map(code, ALWAYS)))).rstrip("\n").split("\n")
-    lines += ["", *table(("clause", "in words", "definition", "wrong bodies", "wrong machines"), list(run_rows(root, made, shown)))]
+    made, others = promising(root)
+    edits, plants, shown = shown_edits(root, made)
+    list(run_rows(root, made, shown))
+    lines = [HEAD.format(crates=", ".join(f"[{it.name}](#{it.name})" for it in made))]
     for crate, some, (count, _) in zip(made, edits, plants):
         lines += section(crate, some, count)
-    others = ", ".join(code(it) for it in names if TESTS.fullmatch(it))
-    return "\n".join(lines) + f"\nThe other crates test these, and promise nothing: {others}.\n"
+    return "\n".join(lines) + f"\nThe other crates test these, and promise nothing: {', '.join(map(code, others))}.\n"
