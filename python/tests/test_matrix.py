@@ -65,7 +65,7 @@ class Coturn(unittest.TestCase):
         with coturn.coturn("-L", "::1", "-E", "127.0.0.1", "-E", "::1") as server:
             words = ("--ca", server.certificate) if server.certificate else ()
             status, steps = tried(server.uri(), *words)
-        self.assertEqual(status, 0)
+        self.assertEqual(status, 0, [it for it in steps.values() if it["outcome"] not in ("ok", "note")])
         for transport in ("udp", "tcp", "tls") if server.certificate else ("udp", "tcp"):
             facts = steps[f"all-1-{transport}"]["facts"]
             self.assertEqual((facts["address"], facts["ipv4"], facts["ipv6"]), ("127.0.0.1", True, True), transport)

@@ -151,7 +151,8 @@ class Pages(unittest.TestCase):
     def test_scrapers_that_hang(self) -> None:
         silent = mock.patch("yarrowdoor.command.scrape._Handler.timeout", limit(4.0))
         with silent, self.page() as (_, where), contextlib.ExitStack() as stack:
-            hanging = [stack.enter_context(socket.create_connection(where, limit(1.0))) for _ in range(60)]
+            # More than the backlog takes at once: a system asks again after 1 s, 3 s and 7 s.
+            hanging = [stack.enter_context(socket.create_connection(where, limit(10.0))) for _ in range(60)]
             for number, it in enumerate(hanging):
                 with contextlib.suppress(OSError):  # It is one of those that were closed for others.
                     it.sendall(b"GET /metrics HTTP/1.1\r\nHost: x\r\n"[:number])

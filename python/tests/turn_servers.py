@@ -121,7 +121,7 @@ def limit(seconds: float) -> float:
     """A limit of time, which is wider where more programs than processors are running: then they wait for each other."""
     # The average is that of a minute, and many tests begin at once: so what is running now counts too.
     running = int(pathlib.Path("/proc/loadavg").read_text().split()[3].partition("/")[0])
-    return seconds if max(os.getloadavg()[0], running) <= (os.cpu_count() or 1) else 10 * seconds
+    return seconds if max(os.getloadavg()[0], running) <= len(os.sched_getaffinity(0)) else 10 * seconds
 
 
 def make_certificate(room: str, name: str, days: int = 2) -> List[str]:
