@@ -61,8 +61,8 @@ def plants_of(root, crate, promised):
 def machine_counts(root):
     """How many wrong machines each clause of `replay` has."""
     counts = {}
-    for file in sorted((root / "tools" / "machines-list").glob("*.edit")):
+    for file in sorted((root / "tools" / "mutate" / "machines").glob("*.edit")):
         for line in file.read_text(encoding="utf-8").split("\n"):
-            if line.startswith("clause: "):
-                counts[line[8:].strip()] = counts.get(line[8:].strip(), 0) + 1
+            if line.startswith("promise: "):
+                counts[line[9:].strip()] = counts.get(line[9:].strip(), 0) + 1
     return counts

@@ -32,7 +32,7 @@ Besides, every call returns, whatever bytes are passed in: no index, sum or cast
 not listed: they are private, or have nothing to say beyond their type.
 
 A wrong body is an edit of a function, which the contract of that function has to refuse. The gate tries those of `must-fail/`,
-which are listed, and `tools/plants` those of `plants/`, which are counted.
+which are listed, and `tools/mutate/try-edits --by prover` those of `plants/`, which are counted.
 
 The crates: {crates}.
 """

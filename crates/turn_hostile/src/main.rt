@@ -21,7 +21,7 @@
 //! ```
 //!
 //! The second prints the lines of the run with this seed, each call followed by its answer, and judges nothing: that is what
-//! `tools/machines` reads. There challenges flood the client at the end, or time passes in silence, and the lines of a run over
+//! `tools/mutate/try-edits --by checker` reads. There challenges flood the client at the end, or time passes in silence, and the lines of a run over
 //! TCP are followed by those of the same calls with the streams in other pieces. Begin with [`whole_run`](whole::whole_run).
 #![tactic(auto)]
 
