@@ -81,18 +81,24 @@ def without(room: pathlib.Path, tests: Tests, some: List[str]) -> Dict[str, Resu
 
 def try_all(rooms: Rooms, edits: List[Edit], tests: Tests) -> Iterator[Tuple[Edit, bool, str]]:
     """Tries the edits side by side, and yields in their order what came of each."""
+    named = list(dict.fromkeys(it.seen for it in edits if it.seen and not it.fault))
+    rows = {test: row for row in tests.together(named) for test in row}
     unedited: Dict[str, "Future[Dict[str, Result]]"] = {}
 
-    def start_without(some: List[str]) -> None:
-        for row in tests.together([it for it in dict.fromkeys(some) if it not in unedited]):
+    def start_without(test: str) -> None:
+        if test not in unedited:
+            row = rows.get(test, [test])
             unedited.update(dict.fromkeys(row, rooms.start(without, tests, row)))
 
-    start_without([it.seen for it in edits if it.seen and not it.fault])
-    tries = [rooms.start(try_edit, edit, tests) for edit in edits]
+    tries = []
+    for edit in edits:
+        if edit.seen and not edit.fault:
+            start_without(edit.seen)
+        tries.append(rooms.start(try_edit, edit, tests))
     for edit, tried in zip(edits, tries):
         verdict = tried.result()
         if verdict.seer:
-            start_without([verdict.seer])
+            start_without(verdict.seer)
             bare = unedited[verdict.seer].result()[verdict.seer]
             if not bare.is_passed:
                 verdict = Verdict(False, f"NOT SEEN: {verdict.seer} does not pass without any edit: {bare.said}")

@@ -75,8 +75,8 @@ class Python(OneByOne):
     def named(self, edit: Edit) -> List[str]:
         found = re.fullmatch(r"tests\.(\w+)\.(\w+)\.(\w+)", edit.seen)
         file = TOP / "python/tests" / f"{found[1]}.py" if found else TOP
-        check_there(found is not None and file.is_file() and re.search(
-            rf"(?s)\nclass {found[2]}\(.*\n    (async )?def {found[3]}\(self\)", file.read_text(encoding="utf-8")) is not None, edit)
+        pattern = rf"(?s)\nclass {found[2]}\(.*\n    (async )?def {found[3]}\(self\)" if found else ""
+        check_there(file.is_file() and re.search(pattern, file.read_text(encoding="utf-8")) is not None, edit)
         return [edit.seen]
 
     def run(self, room: pathlib.Path, test: str, edit: Optional[Edit]) -> Result:
@@ -138,8 +138,8 @@ class Page(OneByOne):
     def named(self, edit: Edit) -> List[str]:
         found = re.fullmatch(r"(\w+)\.(\w+)\.(\w+)", edit.seen)
         file = TOP / "web/test" / f"{found[1]}.py" if found else TOP
-        check_there(found is not None and file.is_file() and re.search(
-            rf"(?s)\nclass {found[2]}\(.*\n    def {found[3]}\(self\)", file.read_text(encoding="utf-8")) is not None, edit)
+        pattern = rf"(?s)\nclass {found[2]}\(.*\n    def {found[3]}\(self\)" if found else ""
+        check_there(file.is_file() and re.search(pattern, file.read_text(encoding="utf-8")) is not None, edit)
         return [edit.seen]
 
     def run(self, room: pathlib.Path, test: str, edit: Optional[Edit]) -> Result:
