@@ -1,102 +1,90 @@
-//! The library for C, as `include/yarrowdoor.h` declares it. A test compares the numbers and the layout with that file.
+//! The library for C, as `include/yarrowdoor.h` declares it. `tools/numbers` compares the numbers and the layout.
 
 use std::mem::{offset_of, size_of};
 
-/// Declares the numbers of the library, each by its name in the header without the prefix.
-macro_rules! numbers {
-    ($($(#[$doc:meta])* $name:ident: $of:ty = $value:expr;)+) => {
-        $($(#[$doc])* pub(crate) const $name: $of = $value;)+
+pub(crate) const UDP: u32 = 0;
+pub(crate) const TCP: u32 = 1;
 
-        #[cfg(test)]
-        const NUMBERS: &[(&str, u64)] = &[$((stringify!($name), $value as u64)),+];
-    };
-}
+pub(crate) const NO_ADDRESS: u8 = 0;
+pub(crate) const IPV4: u8 = 4;
+pub(crate) const IPV6: u8 = 6;
 
-numbers! {
-    UDP: u32 = 0;
-    TCP: u32 = 1;
+pub(crate) const SHA1: u32 = 1;
+pub(crate) const SHA256: u32 = 2;
 
-    NO_ADDRESS: u8 = 0;
-    IPV4: u8 = 4;
-    IPV6: u8 = 6;
+pub(crate) const AUTO: u32 = 0;
+pub(crate) const REQUIRED: u32 = 1;
+pub(crate) const DISABLED: u32 = 2;
 
-    SHA1: u32 = 1;
-    SHA256: u32 = 2;
+/// What the buffer of `poll_transmit` needs, in bytes: every packet is shorter.
+pub(crate) const MAX_PACKET: usize = 65_556;
+/// What the packet of `send_to` may have beyond its data, in bytes, and what the buffer of a head needs.
+pub(crate) const MAX_OVERHEAD: usize = 64;
 
-    AUTO: u32 = 0;
-    REQUIRED: u32 = 1;
-    DISABLED: u32 = 2;
+pub(crate) const CALL_DELETE: u32 = 1;
+pub(crate) const CALL_CREATE_PERMISSION: u32 = 2;
+pub(crate) const CALL_BIND_CHANNEL: u32 = 3;
+pub(crate) const CALL_TCP_CONNECT: u32 = 4;
+pub(crate) const CALL_ALLOCATED_TCP_SOCKET: u32 = 5;
+pub(crate) const CALL_TCP_CLOSED: u32 = 6;
+pub(crate) const CALL_RECV: u32 = 8;
+pub(crate) const CALL_POLL_RECV: u32 = 9;
+pub(crate) const CALL_POLL: u32 = 10;
+pub(crate) const CALL_POLL_TRANSMIT: u32 = 11;
+pub(crate) const CALL_POLL_EVENT: u32 = 12;
+pub(crate) const CALL_PROTOCOL_ERROR: u32 = 13;
+pub(crate) const CALL_RELAYED_ADDRESSES: u32 = 14;
+pub(crate) const CALL_PERMISSIONS: u32 = 15;
+pub(crate) const CALL_HAVE_PERMISSION: u32 = 16;
+pub(crate) const CALL_READ: u32 = 17;
+pub(crate) const CALL_SET_PERMISSION_KEPT: u32 = 18;
+pub(crate) const CALL_SET_CHANNEL_KEPT: u32 = 19;
+/// The data is counted and not read: its pointer may be null.
+pub(crate) const CALL_SEND_HEAD: u32 = 20;
+pub(crate) const CALL_ABANDON: u32 = 21;
 
-    /// What the buffer of `poll_transmit` needs, in bytes: every packet is shorter.
-    MAX_PACKET: usize = 65_556;
-    /// What the packet of `send_to` may have beyond its data, in bytes, and what the buffer of a head needs.
-    MAX_OVERHEAD: usize = 64;
+pub(crate) const OUT_OF_MEMORY: u32 = 1;
+pub(crate) const BAD_TIME: u32 = 2;
+pub(crate) const BAD_PAYLOAD: u32 = 4;
+pub(crate) const REFUSED: u32 = 7;
+pub(crate) const DONE: u32 = 8;
+pub(crate) const NOTHING: u32 = 9;
+pub(crate) const WAIT_UNTIL: u32 = 10;
+pub(crate) const ALLOCATE_TCP_SOCKET: u32 = 11;
+pub(crate) const TCP_CLOSE: u32 = 12;
+pub(crate) const CLOSED: u32 = 13;
+pub(crate) const PACKET: u32 = 14;
+pub(crate) const HANDLED: u32 = 15;
+pub(crate) const IGNORED: u32 = 16;
+pub(crate) const PEER_DATA: u32 = 17;
+pub(crate) const PEER_DATA_RANGE: u32 = 34;
+pub(crate) const PEER_ICMP: u32 = 18;
+pub(crate) const BYTES: u32 = 19;
+pub(crate) const ADDRESS: u32 = 20;
+pub(crate) const YES: u32 = 21;
+pub(crate) const NO: u32 = 22;
+pub(crate) const ALLOCATION_CREATED: u32 = 23;
+pub(crate) const ALLOCATION_CREATE_FAILED: u32 = 24;
+pub(crate) const PERMISSION_CREATED: u32 = 25;
+pub(crate) const PERMISSION_CREATE_FAILED: u32 = 26;
+pub(crate) const CHANNEL_CREATED: u32 = 27;
+pub(crate) const CHANNEL_CREATE_FAILED: u32 = 28;
+pub(crate) const TCP_CONNECTED: u32 = 29;
+pub(crate) const TCP_CONNECT_FAILED: u32 = 30;
 
-    CALL_DELETE: u32 = 1;
-    CALL_CREATE_PERMISSION: u32 = 2;
-    CALL_BIND_CHANNEL: u32 = 3;
-    CALL_TCP_CONNECT: u32 = 4;
-    CALL_ALLOCATED_TCP_SOCKET: u32 = 5;
-    CALL_TCP_CLOSED: u32 = 6;
-    CALL_RECV: u32 = 8;
-    CALL_POLL_RECV: u32 = 9;
-    CALL_POLL: u32 = 10;
-    CALL_POLL_TRANSMIT: u32 = 11;
-    CALL_POLL_EVENT: u32 = 12;
-    CALL_PROTOCOL_ERROR: u32 = 13;
-    CALL_RELAYED_ADDRESSES: u32 = 14;
-    CALL_PERMISSIONS: u32 = 15;
-    CALL_HAVE_PERMISSION: u32 = 16;
-    CALL_READ: u32 = 17;
-    CALL_SET_PERMISSION_KEPT: u32 = 18;
-    CALL_SET_CHANNEL_KEPT: u32 = 19;
-    /// The data is counted and not read: its pointer may be null.
-    CALL_SEND_HEAD: u32 = 20;
-    CALL_ABANDON: u32 = 21;
+pub(crate) const MESSAGE: u32 = 35;
+pub(crate) const CHANNEL_DATA: u32 = 36;
 
-    OUT_OF_MEMORY: u32 = 1;
-    BAD_TIME: u32 = 2;
-    BAD_PAYLOAD: u32 = 4;
-    REFUSED: u32 = 7;
-    DONE: u32 = 8;
-    NOTHING: u32 = 9;
-    WAIT_UNTIL: u32 = 10;
-    ALLOCATE_TCP_SOCKET: u32 = 11;
-    TCP_CLOSE: u32 = 12;
-    CLOSED: u32 = 13;
-    PACKET: u32 = 14;
-    HANDLED: u32 = 15;
-    IGNORED: u32 = 16;
-    PEER_DATA: u32 = 17;
-    PEER_DATA_RANGE: u32 = 34;
-    PEER_ICMP: u32 = 18;
-    BYTES: u32 = 19;
-    ADDRESS: u32 = 20;
-    YES: u32 = 21;
-    NO: u32 = 22;
-    ALLOCATION_CREATED: u32 = 23;
-    ALLOCATION_CREATE_FAILED: u32 = 24;
-    PERMISSION_CREATED: u32 = 25;
-    PERMISSION_CREATE_FAILED: u32 = 26;
-    CHANNEL_CREATED: u32 = 27;
-    CHANNEL_CREATE_FAILED: u32 = 28;
-    TCP_CONNECTED: u32 = 29;
-    TCP_CONNECT_FAILED: u32 = 30;
+pub(crate) const CLASS_REQUEST: u16 = 0;
+pub(crate) const CLASS_INDICATION: u16 = 1;
+pub(crate) const CLASS_SUCCESS: u16 = 2;
 
-    MESSAGE: u32 = 35;
-    CHANNEL_DATA: u32 = 36;
-
-    CLASS_REQUEST: u16 = 0;
-    CLASS_INDICATION: u16 = 1;
-    CLASS_SUCCESS: u16 = 2;
-
-    ERROR_ALREADY_EXISTS: u32 = 1;
-    ERROR_NO_ALLOCATION: u32 = 2;
-    ERROR_NO_PERMISSION: u32 = 3;
-    ERROR_NO_SOCKET: u32 = 4;
-    ERROR_EXPIRED: u32 = 5;
-    ERROR_NOT_GRANTED: u32 = 6;
-}
+pub(crate) const ERROR_ALREADY_EXISTS: u32 = 1;
+pub(crate) const ERROR_NO_ALLOCATION: u32 = 2;
+pub(crate) const ERROR_NO_PERMISSION: u32 = 3;
+pub(crate) const ERROR_NO_SOCKET: u32 = 4;
+pub(crate) const ERROR_EXPIRED: u32 = 5;
+pub(crate) const ERROR_NOT_GRANTED: u32 = 6;
 
 /// No pause between two requests, as `request_cadence` of the settings.
 pub(crate) const NO_PAUSE: u64 = u64::MAX;
@@ -312,39 +300,6 @@ impl Settings {
         Settings {
             reserved_places: [u64::from(yarrowdoor_abi_0), 0],
             ..Settings::default()
-        }
-    }
-}
-
-#[cfg(test)]
-mod tests {
-    use super::NUMBERS;
-
-    const HEADER: &str = include_str!("../../include/yarrowdoor.h");
-
-    /// What the header says that this name is.
-    fn number_of(name: &str) -> Option<u64> {
-        HEADER.lines().find_map(|line| {
-            let line = line.trim_start().trim_start_matches("#define ");
-            let rest = line.strip_prefix("YARROWDOOR_")?.strip_prefix(name)?;
-            let value = rest
-                .trim_start_matches([' ', '='])
-                .trim_start_matches("YARROWDOOR_CAST(size_t, ");
-            let end = value
-                .find(|c: char| !c.is_ascii_digit())
-                .unwrap_or(value.len());
-            if rest.starts_with(' ') {
-                value[..end].parse().ok()
-            } else {
-                None
-            }
-        })
-    }
-
-    #[test]
-    fn the_numbers_are_those_of_the_header() {
-        for (name, value) in NUMBERS {
-            assert_eq!(number_of(name), Some(*value), "{name}");
         }
     }
 }

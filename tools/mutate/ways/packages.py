@@ -113,10 +113,8 @@ class JavaScript(OneByOne):
         if edit is not None and any(it.startswith("js/wasm/") for it, _, _ in edit.pairs):
             wasm = self.linked(room)
         pattern = re.sub(r"[.*+?^${}()|\[\]\\/]", r"\\\g<0>", name)
-        layout = run(room, ["tools/layout", "include/yarrowdoor.h"])
-        (room / "layout.json").write_bytes(layout.out)
-        env = {"YARROWDOOR_WASM": str(wasm), "YARROWDOOR_LAYOUT": str(room / "layout.json")}
-        found = run(room / "js", ["node", "--test", f"--test-name-pattern={pattern}", file], env=env, seconds=120)
+        words = ["node", "--test", f"--test-name-pattern={pattern}", file]
+        found = run(room / "js", words, env={"YARROWDOOR_WASM": str(wasm)}, seconds=120)
         count = re.search(r"^# pass (\d+)$", found.said, re.M)
         return verdict(found.status == 0 and count is not None and int(count[1]) > 0, found.status != 0,
                        test if found.status != 0 else f"{test}: no test has run")
