@@ -13,7 +13,8 @@ import { FOLDER } from "./module.js";
 
 const JS = fileURLToPath(new URL("..", import.meta.url)), TOP = path.dirname(path.resolve(JS)), execute = promisify(execFile);
 const manifest = createRequire(import.meta.url)("../package.json");
-const hasNpm = (process.env.PATH ?? "").split(path.delimiter).some((folder) => existsSync(path.join(folder, "npm")));
+const hasProgram = (name) => (process.env.PATH ?? "").split(path.delimiter).some((folder) => existsSync(path.join(folder, name)));
+const lacking = ["npm", "tsc"].filter((name) => !hasProgram(name));
 
 /** Each object of conditions in `exports`, and each file that it names. */
 function walk(entry, conditions = [], files = []) {
@@ -52,7 +53,7 @@ async function below(folder, name = "") {
     return found.flat().sort();
 }
 
-test("the archive has all that its files import, and nothing else but what it says of itself", { skip: !hasNpm && "npm is missing" }, async () => {
+test("the archive has all that its files import, and nothing else but what it says of itself", { skip: lacking.length > 0 && `${lacking} is missing` }, async () => {
     const room = await mkdtemp(path.join(tmpdir(), "yarrowdoor-package-"));
     try {
         const env = { ...process.env, YARROWDOOR_WASM: FOLDER };
