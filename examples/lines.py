@@ -1,4 +1,4 @@
-"""Greets a peer by the lines of turn_live (docs/LINES.md), and prints what the peer sends.
+"""Greets a peer by the lines of turn_live (docs/rattle/LINES.md), and prints what the peer sends.
 
 It runs at the top of the repository, once turn_live is built, with the server and the peer of examples/README.md.
 """

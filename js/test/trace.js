@@ -1,4 +1,4 @@
-// The lines of a trace (docs/LINES.md, section Traces): its head and its calls, or what is wrong with a line.
+// The lines of a trace (docs/rattle/LINES.md, section Traces): its head and its calls, or what is wrong with a line.
 
 const MAX_TRACE = 1_048_576, MAX_CALLS = 10_000, MAX_PAYLOAD = 65_504;
 const MAX_TIME = 2n ** 62n, MAX_U64 = 2n ** 64n - 1n, MAX_U32 = 2n ** 32n - 1n;

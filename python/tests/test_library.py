@@ -24,7 +24,7 @@ from .steps import Interrupted, interrupt
 
 ROOT = pathlib.Path(__file__).resolve().parent.parent.parent
 LOCAL, REMOTE = ("192.168.0.1", 1000), ("10.0.0.2", 2000)
-PAGE = ROOT / "docs" / "LINES.md"
+PAGE = ROOT / "docs" / "rattle" / "LINES.md"
 
 
 def new_client(**settings: Any) -> sans_io.Client:

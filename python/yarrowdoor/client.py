@@ -17,7 +17,7 @@ data where it lies, for `socket.sendmsg`.
 Times are nanoseconds of a clock that never goes back, from 0 to 2^62. An address is what sockets have: `(IP, port)`, and for
 IPv6 `(IP, port, flow, scope)` where one of the two is not 0. Transports are `"udp"` and `"tcp"`.
 
-What an answer of the server means, and when, is specified by `docs/MACHINE.md` in the repository, and proved of the library.
+What an answer of the server means, and when, is specified by `docs/rattle/MACHINE.md` in the repository, and proved of the library.
 
 Errors: `ValueError` where the arguments are no call; `Refused` where the client refuses one; `MemoryError` where a memory
 allocation failed, after which the client is valid and may have ended: poll it; `Busy` for a second thread at the same time.

@@ -82,7 +82,7 @@ fn a_new_client_refuses_by_name() {
     assert_eq!(client.permissions(udp, peer).count(), 0);
 }
 
-// docs/MACHINE.md, Calls: each family that is still requested fails, and the client ends. It is closed once its events are polled.
+// docs/rattle/MACHINE.md, Calls: each family that is still requested fails, and the client ends. It is closed once its events are polled.
 #[test]
 fn a_protocol_error_ends_the_client() {
     let (mut client, now) = (client(), Instant::ZERO);

@@ -319,7 +319,7 @@ static void bad_settings(const yarrowdoor_settings *good)
     no_client(&s, 0, 4, 0, YARROWDOOR_BAD_SETTINGS);
 }
 
-/* What a server sends to a client of `user` with `pass` and the zero seed (docs/LINES.md, An exchange). */
+/* What a server sends to a client of `user` with `pass` and the zero seed (docs/rattle/LINES.md, An exchange). */
 static const char *const RECEIVED[] = {
     "011300202112a44276b8e0ada0f13d90405d6ae50009000400000401001400057265616c6d000000001500056e6f6e6365000000",
     "0103002c2112a4425386bd28bdd219b8a08ded1a001600080001bd522b12a446000d0004000003e80008001473ab3a7f1f80782b83e3ea333b"

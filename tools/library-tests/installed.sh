@@ -63,7 +63,7 @@ check_tree() {
     local to="$room/a tar/ball" page words
     tools/library-parts/tree . "$dist" "$to"
     (cd "$to" && sha256sum --check --quiet SHA256SUMS)
-    find "$to" -name '*.md' -exec grep -ohE 'docs/[A-Z-]+\.md' {} + | sort -u > "$room/cited"
+    find "$to" -name '*.md' -exec grep -ohE 'docs/([a-z]+/)?[A-Z-]+\.md' {} + | sort -u > "$room/cited"
     grep -qx docs/SECURITY.md "$room/cited"
     while read -r page; do
         [ -f "$to/$page" ] || { echo "there is no $page"; return 1; }

@@ -1,7 +1,7 @@
 """usage: symbols.py LIBRARY JSON NAMES
 
 Calls each typed function of the shared library by its name, through ctypes alone, as a language does that finds functions at run
-time: the structs are made from JSON, which is made from the header. The exchange and its answers are those of docs/LINES.md. Each name
+time: the structs are made from JSON, which is made from the header. The exchange and its answers are those of docs/rattle/LINES.md. Each name
 of the file NAMES but yarrowdoor_call and yarrowdoor_look has to be called.
 """
 import ctypes
@@ -58,7 +58,7 @@ def transmit(now):
 
 
 def exchange():
-    """The exchange of docs/LINES.md: an allocation, a permission, and data both ways."""
+    """The exchange of docs/rattle/LINES.md: an allocation, a permission, and data both ways."""
     check("poll_transmit", transmit(0)[0], N.PACKET)
     check("recv", recv(0, 0), N.HANDLED)
     found, sent = transmit(50_000_000)

@@ -10,7 +10,7 @@
 
 enum { THREADS = 4, BUFFER = 65556 };
 
-/* What a server sends to a client of `user` with `pass` and the zero seed (docs/LINES.md, An exchange): a challenge, and the
+/* What a server sends to a client of `user` with `pass` and the zero seed (docs/rattle/LINES.md, An exchange): a challenge, and the
    successes of ALLOCATE and CREATE_PERMISSION. */
 static const char *const RECEIVED[] = {
     "011300202112a44276b8e0ada0f13d90405d6ae50009000400000401001400057265616c6d000000001500056e6f6e6365000000",

@@ -1,4 +1,4 @@
-/* Traces: a head and a line for each call, as docs/LINES.md has them (section Traces). */
+/* Traces: a head and a line for each call, as docs/rattle/LINES.md has them (section Traces). */
 #ifndef TRACE_H
 #define TRACE_H
 

@@ -51,7 +51,7 @@ def is_text(data):
 
 def pages():
     """The traces in the pages and beside the programs."""
-    for page in [ROOT / "README.md", *sorted((ROOT / "docs").glob("*.md"))]:
+    for page in [ROOT / "README.md", *sorted((ROOT / "docs").rglob("*.md"))]:
         block = []
         for line in [*page.read_text().split("\n"), ""]:
             line = line.strip()

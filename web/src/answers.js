@@ -1,4 +1,4 @@
-// The calls of a run on a client, and the line that answers each (docs/LINES.md, "Traces").
+// The calls of a run on a client, and the line that answers each (docs/rattle/LINES.md, "Traces").
 import { parseIp } from "../yarrowdoor/src/address.js";
 import { OutOfMemory, Refused } from "../yarrowdoor/src/errors.js";
 import { toField, toHex } from "./hex.js";

@@ -1,4 +1,4 @@
-// What the page can check of a packet that was passed in: rules of docs/MACHINE.md and docs/PROTOCOL.md, each met or not, by which
+// What the page can check of a packet that was passed in: rules of docs/rattle/MACHINE.md and docs/rattle/PROTOCOL.md, each met or not, by which
 // it says why a packet may have been ignored. The client decides by more than these: they are hints.
 import { attributeOf } from "./decode.js";
 import { toHex } from "./hex.js";
@@ -61,7 +61,7 @@ async function integrity(packet, frame, { realm, algorithm }, settings) {
         : "its signature is wrong: the key, or a byte before it, is another one", section);
 }
 
-/** The code and the realm of an error response that may be a challenge, or undefined (docs/PROTOCOL.md, "Integrity"). */
+/** The code and the realm of an error response that may be a challenge, or undefined (docs/rattle/PROTOCOL.md, "Integrity"). */
 function challengeIn(frame) {
     const value = (type) => attributeOf(frame, type)?.attribute.value;
     const [error, realm, nonce] = [ATTRIBUTE.ERROR_CODE, ATTRIBUTE.REALM, ATTRIBUTE.NONCE].map(value);
@@ -175,7 +175,7 @@ export async function checksOf(timeline, story, index) {
         return [];
     }
     const isOver = hasEnded(timeline, madeUpTo(story, index - 1), step.time);
-    const over = check(false, "the client had ended before: it takes no message any more", "docs/MACHINE.md");
+    const over = check(false, "the client had ended before: it takes no message any more", "docs/rattle/MACHINE.md");
     const frames = await Promise.all(packet.frames.map((frame) => frameChecks(packet, frame, step, story, timeline)));
     return [...(isOver ? [over] : []), source(packet, story), ...frames.flat()];
 }

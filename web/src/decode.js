@@ -89,7 +89,7 @@ function channelFrame(bytes, start, len, end) {
         fields: end > start + 4 + len ? [...fields, padding] : fields };
 }
 
-/** One datagram (docs/PROTOCOL.md, "Messages" and "ChannelData messages"). */
+/** One datagram (docs/rattle/PROTOCOL.md, "Messages" and "ChannelData messages"). */
 function datagram(bytes) {
     const top = bytes.length ? bytes[0] >> 6 : 2, len = bytes.length >= 4 ? number16(bytes, 2) : 0;
     if (top === 1 && bytes.length >= 4 && len + 4 <= bytes.length) {

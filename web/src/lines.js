@@ -1,9 +1,9 @@
-// The lines of a run (docs/LINES.md, "Traces"): its head and its calls, as what a client takes, or what is wrong with a line.
+// The lines of a run (docs/rattle/LINES.md, "Traces"): its head and its calls, as what a client takes, or what is wrong with a line.
 import { fromField, fromHex } from "./hex.js";
 
 const MAX_TIME = 2n ** 62n, MAX_U64 = 2n ** 64n - 1n, MAX_U32 = 2n ** 32n - 1n, MAX_PAYLOAD = 65_504;
 
-/** What is wrong with a line, in the words of docs/LINES.md: `bad head`, `bad moment`, `bad call`, `bad argument`, `bad payload`. */
+/** What is wrong with a line, in the words of docs/rattle/LINES.md: `bad head`, `bad moment`, `bad call`, `bad argument`, `bad payload`. */
 export class BadLine extends Error {}
 
 /** @type {(what?: string) => never} */

@@ -75,7 +75,7 @@ export class PacketView {
         const ordered = [...checks].sort((one, other) => rank(one) - rank(other));
         const title = step.answer === "ignored" ? "Why it was ignored" : "What the page can check";
         const note = step.answer === "ignored" && !failed
-            ? "None of the rules that the page knows says why: docs/MACHINE.md has all of them."
+            ? "None of the rules that the page knows says why: docs/rattle/MACHINE.md has all of them."
             : "A hint by rules that the page checks itself. The client does not say why.";
         return [make("h3", {}, title), make("ul", { class: "checks" }, ordered.map(item)), make("p", { class: "soft" }, note)];
     }

@@ -1,4 +1,4 @@
-// The phase of a client (docs/MACHINE.md, "Phases"), which no call tells: read off its state and the packets.
+// The phase of a client (docs/rattle/MACHINE.md, "Phases"), which no call tells: read off its state and the packets.
 import { attributeOf } from "./decode.js";
 import { ATTRIBUTE } from "./names.js";
 import { outstanding, requestsBefore } from "./requests.js";

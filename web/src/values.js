@@ -1,4 +1,4 @@
-// What the values of attributes say, and how they are written (docs/PROTOCOL.md).
+// What the values of attributes say, and how they are written (docs/rattle/PROTOCOL.md).
 import { parseIp } from "../yarrowdoor/src/address.js";
 import { addressText } from "./answers.js";
 import { fromHex, toHex } from "./hex.js";

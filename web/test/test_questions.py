@@ -1,4 +1,4 @@
-"""The starting points: what each shows, as the standards and the machine of docs/MACHINE.md have it."""
+"""The starting points: what each shows, as the standards and the machine of docs/rattle/MACHINE.md have it."""
 import unittest
 
 from web.test.browser import browser

@@ -47,7 +47,7 @@ use turn_types::transmit::TransmitBuild;
 /// They may go back from call to call.
 ///
 /// Contracts describe a client by its `State`, and each call as one step of the machine in
-/// `docs/MACHINE.md`. A call whose memory allocation fails returns an error; its doc comment says
+/// `docs/rattle/MACHINE.md`. A call whose memory allocation fails returns an error; its doc comment says
 /// which state remains.
 ///
 /// A caller's loop over any client, which is proved too, is `turn_driver::drive_client`:

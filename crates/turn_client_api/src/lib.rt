@@ -9,7 +9,7 @@
 //! ```
 //!
 //! Begin with [`TurnClientApi`], the trait of all clients: its contracts say of each call what it
-//! returns and the state of the client after it, step by step of the machine that `docs/MACHINE.md`
+//! returns and the state of the client after it, step by step of the machine that `docs/rattle/MACHINE.md`
 //! describes. A caller's loop over any of them:
 //!
 //! ```rust

@@ -11,7 +11,7 @@
 //! ```
 //!
 //! Begin with [`TurnClientProtocol`]: its methods are the calls of a client, and each takes one step of
-//! the machine in `docs/MACHINE.md`.
+//! the machine in `docs/rattle/MACHINE.md`.
 //!
 //! ```rust
 //! match client.datagram(bytes, now)? {

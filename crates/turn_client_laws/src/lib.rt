@@ -1,4 +1,4 @@
-//! Laws of every TURN client that meets `TurnClientApi`: what its machine (`docs/MACHINE.md`) keeps, call by
+//! Laws of every TURN client that meets `TurnClientApi`: what its machine (`docs/rattle/MACHINE.md`) keeps, call by
 //! call. The functions do nothing, or return a constant: their contract is the law.
 #![tactic(auto)]
 

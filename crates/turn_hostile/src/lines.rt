@@ -1,4 +1,4 @@
-//! The lines of a run: its head, and each call with its answer (`docs/LINES.md`).
+//! The lines of a run: its head, and each call with its answer (`docs/rattle/LINES.md`).
 //!
 //! After each call that sends no data, what is active is looked at: the relayed addresses and their permissions. After a
 //! `poll` that has the caller wait, nothing may be due just before that time. Such looks change nothing.

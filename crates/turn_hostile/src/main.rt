@@ -6,7 +6,7 @@
 //!      +-> Model <---+        knows what signed responses came through, and so what may be active
 //! ```
 //!
-//! The calls are lines of a trace (`docs/LINES.md`). After each one, the relayed addresses and permissions in use have to
+//! The calls are lines of a trace (`docs/rattle/LINES.md`). After each one, the relayed addresses and permissions in use have to
 //! be among what the model allows, and no two peers may have one channel number. In the end the trace is read again and its
 //! calls are made on a new client: they have the same answers. A run over TCP is repeated with its streams in other pieces.
 //! The program prints a line for each kind of run, and for the first run that goes wrong its seed and what went wrong, and

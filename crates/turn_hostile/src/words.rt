@@ -1,4 +1,4 @@
-//! The words of a call's line (`docs/LINES.md`).
+//! The words of a call's line (`docs/rattle/LINES.md`).
 
 use crate::acts::Act;
 use std::alloc::{AllocError, Global};

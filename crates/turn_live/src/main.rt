@@ -12,7 +12,7 @@
 //! rt run < stdin
 //! ```
 //!
-//! proves and builds the program, and runs it on the lines of its file `stdin`; `docs/LINES.md` has a caller. Begin
+//! proves and builds the program, and runs it on the lines of its file `stdin`; `docs/rattle/LINES.md` has a caller. Begin
 //! with [`run`].
 #![tactic(auto)]
 

@@ -4,7 +4,7 @@
 //!  standard input: a head, and a line a call --run--> standard output: a line an answer
 //! ```
 //!
-//! The head describes a client and its server; `docs/LINES.md` has the format. From the crate's folder
+//! The head describes a client and its server; `docs/rattle/LINES.md` has the format. From the crate's folder
 //!
 //! ```text
 //! rt try < stdin

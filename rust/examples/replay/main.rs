@@ -1,7 +1,7 @@
 //! Runs a client by the calls of a trace, and prints the answer of each call, as `turn_replay` does.
 //!
 //! usage: `replay [OUT FILE..]`: the trace of standard input, or of each FILE, whose answers go into a file of its name in
-//! the folder OUT. `docs/LINES.md` has the format.
+//! the folder OUT. `docs/rattle/LINES.md` has the format.
 
 mod parse;
 mod print;

@@ -1,6 +1,6 @@
 """`challenges`: at most nine challenges in a row are answered, and only a signed reply that answers something lowers their count.
 
-Nine is the default limit. The tenth ends the client, which then takes no message (docs/DECISIONS.md). Challenges to a
+Nine is the default limit. The tenth ends the client, which then takes no message (docs/rattle/DECISIONS.md). Challenges to a
 CONNECTION_BIND, over its data connection, are not counted.
 """
 from .facts import walk

@@ -12,7 +12,7 @@ from . import stun
 from .facts import LEAST_LIFETIME, SECOND, walk
 from .lines import address_in, ip_in
 
-# docs/MACHINE.md: the pause between two requests, and how many challenges in a row are answered
+# docs/rattle/MACHINE.md: the pause between two requests, and how many challenges in a row are answered
 CADENCE, CHALLENGES = 50_000_000, 9
 
 

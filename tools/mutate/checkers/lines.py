@@ -1,4 +1,4 @@
-"""The lines of runs: a head, and then a call and its answer in turn (docs/LINES.md)."""
+"""The lines of runs: a head, and then a call and its answer in turn (docs/rattle/LINES.md)."""
 import ipaddress
 from dataclasses import dataclass
 
