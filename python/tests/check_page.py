@@ -1,6 +1,6 @@
-"""The runs of docs/CHECK.md: what each is, its server, and what it printed, without what differs from run to run.
+"""The runs of docs/CHECK.md and CHECK-RUNS.md: what each is, its server, and what it printed, without what differs from run to run.
 
-    python3 -m tests.check_page [--all]     makes each run, and writes into the page those that print something else, or all
+    python3 -m tests.check_page [--all]     makes each run, and writes into the pages those that print something else, or all
 """
 import contextlib
 import io
@@ -21,6 +21,7 @@ from . import turn_servers as servers
 from .coturn import IS_HERE, free_port
 
 PAGE = pathlib.Path(__file__).resolve().parent.parent.parent / "docs" / "CHECK.md"
+PAGES = (PAGE, PAGE.with_name("CHECK-RUNS.md"))
 BLOCK = re.compile(r"<!-- run: ([^\n]+) -->\n\n```text\n(.*?)```\n", re.S)
 # The name of a folder, and ports: of the server, and of its TLS.
 Start = Callable[[str, int, int], ContextManager[None]]
@@ -129,20 +130,21 @@ def plain(text: str) -> str:
 
 
 def blocks() -> List[Tuple[str, str]]:
-    """The runs of the page, by name."""
-    return BLOCK.findall(PAGE.read_text())
+    """The runs of the pages, by name."""
+    return [it for page in PAGES for it in BLOCK.findall(page.read_text())]
 
 
 def write(is_all: bool) -> None:
-    """Makes each run, and puts what differs, or all, into the page."""
-    text = PAGE.read_text()
-    for name, before in blocks():
-        _, printed, _ = make(name)
-        if is_all or plain(printed) != plain(before):
-            head = f"<!-- run: {name} -->\n\n```text\n"
-            text = text.replace(f"{head}{before}```", f"{head}{printed}```")
-            print(f"written: {name}")
-    PAGE.write_text(text)
+    """Makes each run, and puts what differs, or all, into its page."""
+    for page in PAGES:
+        text = page.read_text()
+        for name, before in BLOCK.findall(text):
+            _, printed, _ = make(name)
+            if is_all or plain(printed) != plain(before):
+                head = f"<!-- run: {name} -->\n\n```text\n"
+                text = text.replace(f"{head}{before}```", f"{head}{printed}```")
+                print(f"written: {name}")
+        page.write_text(text)
 
 
 if __name__ == "__main__":

@@ -1,4 +1,4 @@
-"""The command against servers of this host: each run of docs/CHECK.md, and pion and ejabberd's library."""
+"""The command against servers of this host: each run of docs/CHECK.md and CHECK-RUNS.md, and pion and ejabberd's library."""
 import contextlib
 import io
 import json
