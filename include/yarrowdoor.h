@@ -326,9 +326,9 @@ uint32_t yarrowdoor_new(const yarrowdoor_settings *settings, const uint8_t *user
 uint32_t yarrowdoor_call(yarrowdoor *client, const yarrowdoor_request *request, const uint8_t *bytes, size_t bytes_len,
                          uint8_t *buffer, size_t buffer_len, yarrowdoor_answer *answer);
 
-/* Makes a call of kind YARROWDOOR_CALL_RELAYED_ADDRESSES, YARROWDOOR_CALL_PERMISSIONS or YARROWDOOR_CALL_HAVE_PERMISSION,
-   for which the client is not changed. Of another kind it is YARROWDOOR_BAD_CALL. The answer is written as by
-   yarrowdoor_call. It takes no memory. */
+/* Makes a call of kind YARROWDOOR_CALL_RELAYED_ADDRESSES, YARROWDOOR_CALL_PERMISSIONS, YARROWDOOR_CALL_HAVE_PERMISSION or
+   YARROWDOOR_CALL_NEXT_PERMISSION, for which the client is not changed. Of another kind it is YARROWDOOR_BAD_CALL. The answer
+   is written as by yarrowdoor_call. It takes no memory. */
 uint32_t yarrowdoor_look(const yarrowdoor *client, const yarrowdoor_request *request, yarrowdoor_answer *answer);
 
 /* Frees a client, or does nothing where it is NULL. It sends nothing: yarrowdoor_delete gives the allocations back to the
@@ -509,7 +509,8 @@ enum yarrowdoor_request_kind {
     YARROWDOOR_CALL_SET_PERMISSION_KEPT = 18,
     YARROWDOOR_CALL_SET_CHANNEL_KEPT = 19,
     YARROWDOOR_CALL_SEND_HEAD = 20, /* the data is counted and not read: bytes may be null, whatever bytes_len is */
-    YARROWDOOR_CALL_ABANDON = 21
+    YARROWDOOR_CALL_ABANDON = 21,
+    YARROWDOOR_CALL_NEXT_PERMISSION = 22 /* of yarrowdoor_look only; by yarrowdoor_call it is YARROWDOOR_BAD_CALL */
 };
 
 /* ---- the functions that make them */
@@ -707,10 +708,25 @@ YARROWDOOR_INLINE enum yarrowdoor_kind yarrowdoor_relayed_address(const yarrowdo
 
 /* The IP address at `index`, from 0, of those that have an active permission in the allocation whose relayed
    address is `relayed`, over `transport`. YARROWDOOR_ADDRESS: answer->peer, whose port is 0. YARROWDOOR_NOTHING:
-   there are no more. It takes no memory. */
+   there are no more. It takes no memory. It counts from the first one at each call: yarrowdoor_next_permission lists many. */
 YARROWDOOR_INLINE enum yarrowdoor_kind yarrowdoor_permission(const yarrowdoor *client, uint32_t transport,
                                                              const yarrowdoor_address *relayed, uint32_t index,
                                                              yarrowdoor_answer *answer);
+
+/* The same addresses one after the other, each found from where the last one stood. YARROWDOOR_ADDRESS: answer->peer, whose
+   port is 0, and in answer->id the cursor for the next call; that of the first call is 0. YARROWDOOR_NOTHING: there are no more.
+   It takes no memory.
+
+       for (cursor = 0; yarrowdoor_next_permission(client, transport, &relayed, cursor, &answer) == YARROWDOOR_ADDRESS;
+            cursor = answer.id) {
+           print_address(&answer.peer);
+       }
+
+   A cursor is a place in the client's list of grants. A permission that is granted between two calls is listed too; for each
+   grant that ends between them, one that comes later may be left out. */
+YARROWDOOR_INLINE enum yarrowdoor_kind yarrowdoor_next_permission(const yarrowdoor *client, uint32_t transport,
+                                                                  const yarrowdoor_address *relayed, uint32_t cursor,
+                                                                  yarrowdoor_answer *answer);
 
 /* ---- addresses */
 
@@ -1048,6 +1064,18 @@ YARROWDOOR_INLINE enum yarrowdoor_kind yarrowdoor_permission(const yarrowdoor *c
     request.transport = transport;
     request.from = *relayed;
     request.id = index;
+    return yarrowdoor_look_at(client, &request, answer);
+}
+
+YARROWDOOR_INLINE enum yarrowdoor_kind yarrowdoor_next_permission(const yarrowdoor *client, uint32_t transport,
+                                                                  const yarrowdoor_address *relayed, uint32_t cursor,
+                                                                  yarrowdoor_answer *answer)
+{
+    yarrowdoor_request request;
+    yarrowdoor_begin(&request, YARROWDOOR_CALL_NEXT_PERMISSION, 0);
+    request.transport = transport;
+    request.from = *relayed;
+    request.id = cursor;
     return yarrowdoor_look_at(client, &request, answer);
 }
 

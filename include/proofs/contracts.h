@@ -235,6 +235,10 @@ enum yarrowdoor_kind yarrowdoor_relayed_address(const yarrowdoor *client, uint32
 enum yarrowdoor_kind yarrowdoor_permission(const yarrowdoor *client, uint32_t transport, const yarrowdoor_address *relayed,
                                            uint32_t index, yarrowdoor_answer *answer);
 
+/*@ LOOKS READS(relayed) SHOWS PASSES(YARROWDOOR_CALL_NEXT_PERMISSION, 0, cursor, transport) NO_BYTES FROM(relayed) NO_TO NO_PEER NO_LOCAL ANSWERS */
+enum yarrowdoor_kind yarrowdoor_next_permission(const yarrowdoor *client, uint32_t transport, const yarrowdoor_address *relayed,
+                                                uint32_t cursor, yarrowdoor_answer *answer);
+
 /* ---- addresses */
 
 /*@ requires \valid_read(a) && \valid_read(b);

@@ -75,6 +75,7 @@ static void any_call(yarrowdoor *client)
     case 20: yarrowdoor_permission(client, n, &a, m, &answer); break;
     case 21: yarrowdoor_recv(client, n, &a, &b, NULL, 0, now, NULL, 0, &answer); break;
     case 22: yarrowdoor_abandon(client, now, buffer, room, &answer); break;
+    case 23: yarrowdoor_next_permission(client, n, &a, m, &answer); break;
     default: break;
     }
 }

@@ -34,7 +34,6 @@ pub(crate) const CALL_POLL_TRANSMIT: u32 = 11;
 pub(crate) const CALL_POLL_EVENT: u32 = 12;
 pub(crate) const CALL_PROTOCOL_ERROR: u32 = 13;
 pub(crate) const CALL_RELAYED_ADDRESSES: u32 = 14;
-pub(crate) const CALL_PERMISSIONS: u32 = 15;
 pub(crate) const CALL_HAVE_PERMISSION: u32 = 16;
 pub(crate) const CALL_READ: u32 = 17;
 pub(crate) const CALL_SET_PERMISSION_KEPT: u32 = 18;
@@ -42,6 +41,7 @@ pub(crate) const CALL_SET_CHANNEL_KEPT: u32 = 19;
 /// The data is counted and not read: its pointer may be null.
 pub(crate) const CALL_SEND_HEAD: u32 = 20;
 pub(crate) const CALL_ABANDON: u32 = 21;
+pub(crate) const CALL_NEXT_PERMISSION: u32 = 22;
 
 pub(crate) const OUT_OF_MEMORY: u32 = 1;
 pub(crate) const BAD_TIME: u32 = 2;

@@ -207,7 +207,8 @@ static void bad_looks(const yarrowdoor *client)
         yarrowdoor_answer answer, bare;
         memset(&answer, 0xee, sizeof answer);
         memset(&bare, 0xee, sizeof bare);
-        if (kind >= YARROWDOOR_CALL_RELAYED_ADDRESSES && kind <= YARROWDOOR_CALL_HAVE_PERMISSION) {
+        if ((kind >= YARROWDOOR_CALL_RELAYED_ADDRESSES && kind <= YARROWDOOR_CALL_HAVE_PERMISSION) ||
+            kind == YARROWDOOR_CALL_NEXT_PERMISSION) {
             r.reserved = 1;
         }
         bare.kind = YARROWDOOR_BAD_CALL;

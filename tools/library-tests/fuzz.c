@@ -313,13 +313,31 @@ static void request(struct run *run, uint8_t which)
     expect(answer.error <= YARROWDOOR_ERROR_NOT_GRANTED, "an error that is none");
 }
 
+/* The permissions from a cursor on, which moves on with each of them. */
+static void list(struct run *run, uint8_t which)
+{
+    static const yarrowdoor_address nowhere;
+    const yarrowdoor_address relayed = yarrowdoor_ipv4(10, 0, 0, 4, 40000);
+    uint32_t cursor = which >> 3 == 31 ? UINT32_MAX : which >> 3, kind;
+    do {
+        yarrowdoor_answer answer;
+        prepare(&answer, 0);
+        kind = yarrowdoor_next_permission(run->client, run->settings.allocation_transport, &relayed, cursor, &answer);
+        EXPECT(kind, &answer, 0, YARROWDOOR_ADDRESS, YARROWDOOR_NOTHING);
+        expect(kind == YARROWDOOR_NOTHING || answer.id > cursor, "a cursor that does not move on");
+        cursor = answer.id;
+        expect(yarrowdoor_next_permission(run->client, run->settings.allocation_transport, &nowhere, cursor, &answer) ==
+                   YARROWDOOR_BAD_CALL, "permissions of no address");
+    } while (kind == YARROWDOOR_ADDRESS);
+}
+
 /* The calls that tell something. */
 static void look(struct run *run, uint8_t which)
 {
     yarrowdoor_answer answer;
     uint32_t kind;
     prepare(&answer, 0);
-    switch (which % 4) {
+    switch (which % 5) {
     case 0:
         kind = yarrowdoor_relayed_address(run->client, which >> 2 & 1, &answer);
         EXPECT(kind, &answer, 0, YARROWDOOR_ADDRESS, YARROWDOOR_NOTHING);
@@ -333,6 +351,9 @@ static void look(struct run *run, uint8_t which)
         EXPECT(kind, &answer, 0, YARROWDOOR_NOTHING, YARROWDOOR_ALLOCATION_CREATED, YARROWDOOR_ALLOCATION_CREATE_FAILED,
                YARROWDOOR_PERMISSION_CREATED, YARROWDOOR_PERMISSION_CREATE_FAILED, YARROWDOOR_CHANNEL_CREATED,
                YARROWDOOR_CHANNEL_CREATE_FAILED, YARROWDOOR_TCP_CONNECTED, YARROWDOOR_TCP_CONNECT_FAILED);
+        break;
+    case 3:
+        list(run, which);
         break;
     default:
         kind = yarrowdoor_poll(run->client, run->now, &answer);

@@ -1,5 +1,5 @@
 -- What an answer says. A field that a kind does not use stays as it was.
-use Rattle.std.specs.Prelude.{ℕ, Bool, true, false, List, slice_get, Option, Some, None, Ok, Err, ⊤}
+use Rattle.std.specs.Prelude.{ℕ, ◌^◌, nat_lt, Bool, true, false, if◌then◌else◌, List, slice_get, Option, Some, None, Ok, Err, ⊤}
 use Rattle.std.specs.declared.net.ip_addr.IpAddr.{IpAddr}
 use Rattle.std.specs.declared.net.socket_addr.SocketAddr.{SocketAddr}
 use Rattle.turn_stun.specs.declared.transport.TransportType.{TransportType}
@@ -100,6 +100,12 @@ relayed_answer (Some one) a = peer_answer ADDRESS one.0 (c_address one.1) a
 abbrev pub permission_answer : Option IpAddr → Answer → Answer
 permission_answer None a = of_kind NOTHING a
 permission_answer (Some ip) a = record a { kind = ADDRESS; peer = address_of_ip ip }
+
+-- the IP address of a permission with the position behind it, or that there is none; a position has 32 bits
+abbrev pub next_permission_answer : Option (IpAddr × ℕ) → Answer → Answer
+next_permission_answer None a = of_kind NOTHING a
+next_permission_answer (Some next) a =
+    if nat_lt next.1 (2 ^ 32) then record a { kind = ADDRESS; id = next.1; peer = address_of_ip next.0 } else of_kind NOTHING a
 
 -- whether there is a permission, by the numbers of `YES` and `NO` that C programs were built with
 abbrev pub found_answer : Bool → Answer → Answer

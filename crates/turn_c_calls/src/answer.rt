@@ -59,7 +59,7 @@ impl Answer {
     ghost use Rattle.std.specs.Prelude.{◌≡◌};
     ghost use Rattle.turn_c_calls.specs.Address.{c_address, address_of_ip};
     ghost use Rattle.turn_c_calls.specs.Answer.{IsPlain, answer_to, data_answer, event_answer, icmp_answer, packet_answer};
-    ghost use Rattle.turn_c_calls.specs.Answer.{peer_answer, permission_answer, poll_answer, refusal_answer, relayed_answer};
+    ghost use Rattle.turn_c_calls.specs.Answer.{next_permission_answer, peer_answer, permission_answer, poll_answer, refusal_answer, relayed_answer};
 
     /// A reply that has neither bytes nor a list.
     // Inlined, so that the reply, which is large, is never made as one value.
@@ -281,6 +281,25 @@ impl Answer {
                 self.peer.set_ip(ip);
             }
             None => self.kind = NOTHING,
+        }
+    }
+
+    /// The IP address of a permission with the position behind it, or that there is none. A position that has not 32 bits is
+    /// that of none.
+    pub(crate) fn set_next_permission(&mut self, next: Option<(IpAddr, usize)>)
+        ensures { self.new ≡ next_permission_answer next self.old }
+    {
+        let Some((ip, position)) = next else {
+            self.kind = NOTHING;
+            return;
+        };
+        match u32::try_from(position) {
+            Ok(position) => {
+                self.kind = ADDRESS;
+                self.id = position;
+                self.peer.set_ip(ip);
+            }
+            Err(_) => self.kind = NOTHING,
         }
     }
 

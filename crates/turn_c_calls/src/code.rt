@@ -85,6 +85,9 @@ pub const SEND_HEAD: u32 = 20;
 /// `abandon`. The packet, if there is one, is written to the buffer, and what does not fit is left to be read.
 pub const ABANDON: u32 = 21;
 
+/// `next_permission` in the allocation over `transport` with the relayed address `from`, from the position `id` on. It only looks.
+pub const NEXT_PERMISSION: u32 = 22;
+
 // ---- the kinds of answers: the call was not made, or failed
 
 /// A memory allocation failed. The client may have ended: the state is the one that the call leaves then.

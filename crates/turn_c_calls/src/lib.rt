@@ -25,6 +25,7 @@ mod head;
 pub mod hints;
 pub mod library;
 mod make;
+mod next_permission;
 pub mod opening;
 pub mod request;
 pub mod room;

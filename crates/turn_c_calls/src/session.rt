@@ -5,15 +5,18 @@ ghost use Rattle.turn_client_proto.specs.Client.{state_of};
 ghost use Rattle.turn_c_calls.specs.Abandon.{AbandonRequestEnds, AbandonRequestLacks};
 ghost use Rattle.turn_c_calls.specs.Arms.{BareEnds, BareLacks, RequestEnds, RequestLacks};
 ghost use Rattle.turn_c_calls.specs.Head.{HeadRequestEnds, HeadRequestLacks};
+ghost use Rattle.turn_c_calls.specs.Look.{LacksSight, Looks, sight};
 ghost use Rattle.turn_c_calls.specs.Request.{Bare, Written, flow_of, kind_in, kind_of};
 ghost use Rattle.turn_c_calls.specs.declared.request.Kind.TheVariants as Kind;
 
 use crate::abandon::abandon;
 use crate::answer::Answer;
 use crate::channel::recv_udp;
+use crate::code::NEXT_PERMISSION;
 use crate::fault::Fault;
 use crate::handle::{handle, handle_bare, look, recv};
 use crate::head::send_head;
+use crate::next_permission::next_permission;
 use crate::request::{Kind, Request, time_of};
 use crate::unread::Unread;
 use std::alloc::Global;
@@ -48,7 +51,7 @@ impl Session {
     ghost use Rattle.turn_c_calls.specs.Abandon.{AbandonSteps};
     ghost use Rattle.turn_c_calls.specs.Head.{HeadSteps};
     ghost use Rattle.turn_c_calls.specs.Held.{held};
-    ghost use Rattle.turn_c_calls.specs.Look.{look_answer, looked};
+    ghost use Rattle.turn_c_calls.specs.Look.{look_answer, sight};
     ghost use Rattle.turn_c_calls.specs.Step.{BareSteps, Steps};
 
     /// This client, whose allocations relay over `relays`, with nothing to be read.
@@ -174,9 +177,9 @@ impl Session {
     /// Answers a request that only looks at the client.
     #[tactic(auto, using(crate::proofs::LookLemmas::looked_so, crate::proofs::LookLemmas::looked_not))]
     pub fn look(&self, request: &Request, answer: &mut Answer)
-        ensures { answer.new ≡ look_answer (looked request.now self.now.client) answer.old }
+        ensures { answer.new ≡ look_answer (sight request.now self.now.client) answer.old }
     {
-        match look(&self.client, request, answer) {
+        match look_at(&self.client, request, answer) {
             Ok(()) => {}
             Err(fault) => answer.kind = fault.code(),
         }
@@ -294,4 +297,15 @@ fn abandon_either(
         TurnClient::Udp(client) => abandon(client, request, unread, buffer, answer),
         TurnClient::Tcp(client) => abandon(client, request, unread, buffer, answer),
     }
+}
+
+/// Answers a request that only looks at the client, whichever it is.
+fn look_at(client: &TurnClient, request: &Request, answer: &mut Answer) -> Result<(), Fault>
+    ensures ok { OnOk result (Looks (sight request.now (state_of client.now)) answer.old answer.new) }
+    ensures err { IfErr result (λ fault. LacksSight (sight request.now (state_of client.now)) fault answer.old answer.new) }
+{
+    if request.kind == NEXT_PERMISSION {
+        return next_permission(client, request, answer);
+    }
+    look(client, request, answer)
 }

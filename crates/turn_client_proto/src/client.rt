@@ -4,6 +4,7 @@ ghost use Rattle.std.specs.Prelude.{◌≡◌, All, IfOk, IsNone, IsOk, OnErr, O
 ghost use Rattle.turn_client_api.specs.Answers.{EndsAfterSteps};
 ghost use Rattle.turn_client_api.specs.State.{initial};
 ghost use Rattle.turn_client_api.specs.Streams.{HoldsLittle, poll_recv_step};
+ghost use Rattle.turn_client_grants.specs.NextPermission.{next_permission};
 ghost use Rattle.turn_client_tcp.specs.Lent.{IsLentInPlace, IsReadIfAny};
 ghost use Rattle.turn_client_proto.specs.Client.{state_of};
 
@@ -90,6 +91,22 @@ impl TurnClient {
         match self {
             TurnClient::Udp(client) => client.poll_recv_with(now, read),
             TurnClient::Tcp(client) => client.poll_recv_with(now, read),
+        }
+    }
+
+    /// The next permission from a position on, as
+    /// [`TurnClientOver::next_permission`](crate::over::TurnClientOver::next_permission) says.
+    pub fn next_permission(
+        &self,
+        transport: TransportType,
+        relayed: SocketAddr,
+        position: usize,
+    ) -> Option<(IpAddr, usize)>
+        ensures { result ≡ next_permission transport relayed position (state_of self.now) }
+    {
+        match self {
+            TurnClient::Udp(client) => client.next_permission(transport, relayed, position),
+            TurnClient::Tcp(client) => client.next_permission(transport, relayed, position),
         }
     }
 }

@@ -39,6 +39,28 @@ impl<C: Carrier> Model for TurnClientOver<C> {
     ghost invariant = { λ client. IsClientOver C.transport (C.state client.carrier) };
 }
 
+impl<C: Carrier> TurnClientOver<C> {
+    ghost use Rattle.std.specs.Prelude.{◌≡◌};
+    ghost use Rattle.turn_client_grants.specs.NextPermission.{next_permission};
+
+    /// The first of the addresses of [`permissions`](TurnClientApi::permissions) that is granted at this position or
+    /// behind it, and the position behind that grant, for a caller that lists them one at a time and keeps no
+    /// iterator. It begins at position 0. A permission that is granted meanwhile is listed too; one that ends meanwhile
+    /// shifts those behind it, of which as many may be passed over. Allocates no memory.
+    pub fn next_permission(
+        &self,
+        transport: TransportType,
+        relayed: SocketAddr,
+        position: usize,
+    ) -> Option<(IpAddr, usize)>
+        ensures { result ≡ next_permission transport relayed position self.now }
+    {
+        self.carrier
+            .control()
+            .next_permission(transport, relayed, position)
+    }
+}
+
 impl<C: Carrier> TurnClientApi for TurnClientOver<C> {
     ghost state = { λ client. client };
 

@@ -23,15 +23,15 @@ impl std::fmt::Debug for Request {
     }
 }
 
-impl Iterator for Addresses<'_> {
-    type Item = sys::Answer;
-
-    fn next(&mut self) -> Option<sys::Answer> {
+impl Addresses<'_> {
+    /// The address that the request names. The next one is named by the number that `next` makes of the request's number and
+    /// of the answer.
+    fn next(&mut self, next: impl FnOnce(u32, &sys::Answer) -> u32) -> Option<sys::Answer> {
         let answer = self.handle.look(&self.request.0);
         match answer.kind {
             sys::NOTHING => None,
             sys::ADDRESS => {
-                self.request.0.id += 1;
+                self.request.0.id = next(self.request.0.id, &answer);
                 Some(answer)
             }
             _ => unexpected(&answer),
@@ -54,7 +54,7 @@ impl Iterator for RelayedAddresses<'_> {
     type Item = (TransportType, SocketAddr);
 
     fn next(&mut self) -> Option<(TransportType, SocketAddr)> {
-        let answer = self.0.next()?;
+        let answer = self.0.next(|index, _| index + 1)?;
         Some((transport(answer.transport), socket(&answer.peer)))
     }
 }
@@ -72,7 +72,7 @@ impl<'a> Permissions<'a> {
         let request = Request(sys::Request {
             transport: transport_code(relayed),
             from: address(at),
-            ..timeless(sys::CALL_PERMISSIONS)
+            ..timeless(sys::CALL_NEXT_PERMISSION)
         });
         Permissions(Addresses { handle, request })
     }
@@ -82,6 +82,7 @@ impl Iterator for Permissions<'_> {
     type Item = IpAddr;
 
     fn next(&mut self) -> Option<IpAddr> {
-        Some(socket(&self.0.next()?.peer).ip())
+        let answer = self.0.next(|_, answer| answer.id)?;
+        Some(socket(&answer.peer).ip())
     }
 }

@@ -18,6 +18,7 @@ ghost use Rattle.turn_client_api.specs.declared.state.Phase.TheVariants.{Allocat
 ghost use Rattle.turn_client_grants.specs.Due.{all_times, relay_ends};
 ghost use Rattle.turn_client_api.specs.Due.{expiry_times};
 ghost use Rattle.turn_client_grants.specs.Lists.{both_of, first_among, with_ahead};
+ghost use Rattle.turn_client_grants.specs.NextPermission.{next_permitted};
 ghost use Rattle.turn_client_grants.specs.Refresh.{first_refresh};
 ghost use Rattle.turn_client_grants.specs.Table.{is_numbered, with_table};
 ghost use Rattle.turn_client_grants.specs.GrantFilter.{purposes_in};
@@ -116,6 +117,18 @@ impl GrantTable {
         ensures { permitted_left result ≡ permitted_in_use family self.now.grants }
     {
         PermissionAddressesIter::new(family, self.grants.as_slice())
+    }
+
+    /// The first of these addresses that is granted at this position among all grants or behind it, and the
+    /// position behind that grant.
+    pub fn next_permitted(
+        &self,
+        family: AddressFamily,
+        position: usize,
+    ) -> Option<(IpAddr, usize)>
+        ensures { result ≡ next_permitted family position self.now.grants }
+    {
+        reads::next_permitted(self.grants.as_slice(), family, position)
     }
 
     /// How many grants there are.

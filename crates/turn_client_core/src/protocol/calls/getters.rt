@@ -7,6 +7,7 @@ ghost use Rattle.turn_client_api.specs.Calls.{can_send_to, permissions_of, relay
 ghost use Rattle.turn_client_api.specs.Connections.{is_connected, is_connecting};
 ghost use Rattle.turn_client_api.specs.Grants.{channel_peer, first_in, has_active_permission};
 ghost use Rattle.turn_client_api.specs.RequestViews.{queued_request_count, viewed_request};
+ghost use Rattle.turn_client_grants.specs.NextPermission.{next_permission};
 
 use crate::protocol::TurnClientProtocol;
 use std::net::{IpAddr, SocketAddr};
@@ -85,6 +86,19 @@ impl TurnClientProtocol {
         ensures { permitted_left result ≡ permissions_of transport relayed self.now }
     {
         self.ledger.permissions(transport, relayed)
+    }
+
+    /// The first of the [`permissions`](TurnClientProtocol::permissions) that is granted at this position among
+    /// all grants or behind it, and the position behind that grant.
+    pub fn next_permission(
+        &self,
+        transport: TransportType,
+        relayed: SocketAddr,
+        position: usize,
+    ) -> Option<(IpAddr, usize)>
+        ensures { result ≡ next_permission transport relayed position self.now }
+    {
+        self.ledger.next_permission(transport, relayed, position)
     }
 
     /// Whether this peer IP address has an active permission. Allocations that are marked as expired are
