@@ -35,6 +35,7 @@ pub(crate) fn have_same_addresses(rt: &impl Abort, ledger: &GrantLedger, plain: 
     relayed(rt, ledger, plain);
     for n in 0..8u8 {
         permitted(rt, ledger, plain, n);
+        next_permitted(rt, ledger, plain, n);
     }
     let mut none = ledger.permissions(TransportType::Udp, address(0));
     same(rt, none.next(), None);
@@ -64,6 +65,23 @@ fn permitted(rt: &impl Abort, ledger: &GrantLedger, plain: &Plain, n: u8) {
     }
     same(rt, all.next(), None);
     same(rt, found.next(), None);
+}
+
+/// From each position on, the next permission is that of the first row there or behind it that permits.
+fn next_permitted(rt: &impl Abort, ledger: &GrantLedger, plain: &Plain, n: u8) {
+    let is_in_use = plain.has_relayed(n);
+    let mut behind = plain.rows.len();
+    let mut next = None;
+    same(rt, ledger.next_permission(TRANSPORT, address(n), behind), None);
+    for row in plain.rows.iter().rev() {
+        if row.permits(is_ipv6(n)) && is_in_use {
+            next = Some((address(row.peer).ip(), behind));
+        }
+        behind = behind.saturating_sub(1);
+        same(rt, ledger.next_permission(TRANSPORT, address(n), behind), next);
+    }
+    same(rt, behind, 0);
+    same(rt, ledger.next_permission(TransportType::Udp, address(n), 0), None);
 }
 
 impl Plain {
