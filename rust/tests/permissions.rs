@@ -16,7 +16,7 @@ const UDP: TransportType = TransportType::Udp;
 const COUNT: u32 = 4_000;
 
 /// The most that a list of so many takes. By the lookups it took 46 ms.
-const MOST: Duration = Duration::from_millis(8);
+const MOST: Duration = Duration::from_millis(15);
 
 fn client(config: TurnConfig) -> TurnClientUdp {
     let (local, remote) = (

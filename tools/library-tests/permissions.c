@@ -13,7 +13,7 @@
 enum { COUNT = 4000, PEERS_OF_CHANNEL = 100, ROUNDS = 5 };
 
 /* The most that a list of all takes, in nanoseconds. */
-static const long MOST = 5000000;
+static const long MOST = 10000000;
 
 static yarrowdoor_address local, server, relayed, other;
 static yarrowdoor *client;
