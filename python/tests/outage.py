@@ -17,6 +17,8 @@ from typing import Any, Dict, List
 
 from yarrowdoor import Down, Relay, Up
 
+from .coturn import wait_for
+
 HOST, OWN, OTHER = "10.99.0.1", "10.99.0.2", "10.99.0.3"
 PEER = (HOST, 3480)
 # How long the network is away, and the server, in seconds.
@@ -58,9 +60,7 @@ class Host:
 
     async def serves(self) -> None:
         """Waits until the server listens."""
-        program = "import socket, sys; socket.create_connection((sys.argv[1], 3478), 1)"
-        while subprocess.run([*self.inside, sys.executable, "-c", program, HOST], stderr=subprocess.DEVNULL).returncode:
-            await asyncio.sleep(0.05)
+        await asyncio.to_thread(wait_for, self.server, {(it, HOST, 3478) for it in ("tcp", "udp")})
 
     def end(self) -> None:
         for it in (self.server, self.peer, self.sleeper):

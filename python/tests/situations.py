@@ -13,6 +13,7 @@ import time
 from dataclasses import dataclass, field
 from typing import Any, Dict, Iterator, List, Optional, Sequence, Tuple
 
+from .coturn import places, wait_for
 from .turn_servers import limit
 
 TOP = pathlib.Path(__file__).resolve().parent.parent
@@ -250,11 +251,6 @@ def _inside(namespace: str, words: Sequence[str]) -> List[str]:
     return ["ip", "netns", "exec", namespace, *words] if namespace else [*words]
 
 
-def _listens(port: int) -> bool:
-    found = subprocess.run(_inside("srv", ["ss", "-lnH"]), stdout=subprocess.PIPE, text=True)
-    return f":{port} " in found.stdout
-
-
 def _coturn(situation: Situation, room: str, certs: str) -> Iterator[List[str]]:
     """The words of the servers: one, or with `--twin ADDRESS` another one there, and with `--second` one with another password."""
     options = [*(situation.coturn or ())]
@@ -290,12 +286,9 @@ def _running(situation: Situation, room: str, certs: str) -> Iterator[None]:
     try:
         if situation.coturn is not None:
             for words in _coturn(situation, room, certs):
-                started.append(subprocess.Popen(_inside("srv", words), stdout=subprocess.DEVNULL, stderr=subprocess.DEVNULL))
-            for _ in range(300):
-                if _listens(3478):
-                    break
-                time.sleep(0.1)
-            time.sleep(0.5)
+                server = subprocess.Popen(_inside("srv", words), stdout=subprocess.DEVNULL, stderr=subprocess.DEVNULL)
+                started.append(server)
+                wait_for(server, places(words))
         for namespace, words in _others(situation, certs):
             program = subprocess.Popen(_inside(namespace, words), stdout=subprocess.PIPE, stderr=subprocess.DEVNULL, text=True,
                                        cwd=TOP)

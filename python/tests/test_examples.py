@@ -3,6 +3,7 @@ import contextlib
 import os
 import pathlib
 import signal
+import socket
 import subprocess
 import sys
 import tempfile
@@ -51,6 +52,7 @@ class Examples(unittest.TestCase):
         peer = subprocess.Popen(["turnutils_peer", "-L", "127.0.0.1", "-p", str(cls.port)], stdout=subprocess.DEVNULL)
         stack.callback(peer.wait)
         stack.callback(peer.terminate)
+        server.wait_for(peer, {("udp", "127.0.0.1", cls.port)})
 
     def echo(self, *options: str) -> None:
         program = start(str(EXAMPLES / "turn.py"), *options, "user", "pass", f"127.0.0.1:{self.port}", "hello")
@@ -84,7 +86,8 @@ class Examples(unittest.TestCase):
         sent.write_bytes(os.urandom(1_000_001))
         taker = start(str(EXAMPLES / "send_file.py"), "take", str(port), str(taken))
         self.addCleanup(end, taker)
-        server.wait_for(port, taker)  # a connection without data takes no file
+        server.wait_for(taker, {("tcp", "0.0.0.0", port)})
+        socket.create_connection(("127.0.0.1", port), 60).close()  # a connection without data takes no file
         uri = self.server.uri("turns:localhost:{tls_port}")
         words = ["send", "--ca", self.server.certificate, uri, "user", "pass", f"127.0.0.1:{port}", str(sent)]
         said, _ = start(str(EXAMPLES / "send_file.py"), *words).communicate(timeout=60)

@@ -145,6 +145,7 @@ class Installed(unittest.TestCase):
         peer = subprocess.Popen(["turnutils_peer", "-L", "127.0.0.1", "-p", str(port)], stdout=subprocess.DEVNULL)
         self.addCleanup(peer.wait)
         self.addCleanup(peer.terminate)
+        server.wait_for(peer, {("udp", "127.0.0.1", port)})
         program = self.room / "echo.py"
         with server.coturn() as at:
             lines = found[1].replace("127.0.0.1:3478", f"127.0.0.1:{at.port}").replace("3480", str(port)).splitlines()

@@ -16,7 +16,7 @@ from typing import Any, Dict, Sequence
 from . import coturn, situations
 from .turn_servers import HAS_PION, build_pion, limit
 
-NEEDED = ("unshare", "ip", "nft", "ss", "openssl", "sysctl")
+NEEDED = ("unshare", "ip", "nft", "openssl", "sysctl")
 WHY = "this user may make no network namespaces, or one of these is missing: " + ", ".join(NEEDED)
 # Side by side, since most of their time they wait.
 JOBS = 8

@@ -9,7 +9,7 @@ import threading
 import time
 from typing import Iterator, List, Optional, Sequence
 
-from .coturn import wait_for
+from .coturn import places, wait_for
 
 PION_SOURCE = pathlib.Path(__file__).resolve().parent / "pion" / "main.go"
 GO_PATH = "/usr/share/gocode"
@@ -40,7 +40,7 @@ def coturn(room: str, port: int, *options: str, joins_loopback: bool = True, tls
     words += ["--cert", tls[0], "--pkey", tls[1], "--tls-listening-port", tls[2]] if tls else ["--no-tls"]
     server = subprocess.Popen(words, cwd=room, stdout=subprocess.DEVNULL, stderr=subprocess.DEVNULL)
     try:
-        wait_for(port, server)
+        wait_for(server, places(words))
         yield
     finally:
         server.terminate()
