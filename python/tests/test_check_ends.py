@@ -79,6 +79,34 @@ class Rates(unittest.TestCase):
             self.assertEqual((step.outcome, step.advice[:len(said) or 9]), (Outcome.OK, said))
 
 
+class Pauses(unittest.TestCase):
+    """A clock that only moves while packets are sent, and while what comes is waited for."""
+
+    def sent(self, late: float, stall: float = 0.0) -> List[float]:
+        """When packets leave with a pause of 2 ms, each wait of which ends so much later, and once so much later still."""
+        now, times = [0.0], []  # type: List[float], List[float]
+        trip = mock.Mock(all=[])
+
+        def drive(holds: Callable[[], bool], seconds: float) -> bool:
+            now[0] += max(0.0, seconds) + late + (stall if len(times) == 20 else 0.0)
+            return holds()
+
+        trip.drive.side_effect = drive
+        trip.sender.send.side_effect = lambda data, peer: times.append(now[0])
+        with mock.patch("time.monotonic", lambda: now[0]):
+            traffic.send_all(trip, [100] * 100, 0.002, 0.0, lambda number: None)
+        return times
+
+    def test_what_sending_takes_is_a_part_of_the_pause(self) -> None:
+        for late in (0.0, 0.0005, 0.001):
+            self.assertAlmostEqual(self.sent(late)[-1], 0.198, delta=0.003)
+
+    def test_a_stall_is_not_made_up_for_in_a_burst(self) -> None:
+        times = self.sent(0.0, 0.1)
+        self.assertAlmostEqual(times[-1], 0.298, delta=0.003)
+        self.assertGreater(min(after - before for before, after in zip(times, times[1:])), 0.0004)
+
+
 class Balancers(unittest.TestCase):
     def test_what_follows_from_one_does_not_fail(self) -> None:
         failed = Step("permission", Outcome.FAILED, "refused: 437", 0.0, "Mend it.", {"code": 437})

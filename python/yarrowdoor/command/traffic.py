@@ -135,10 +135,13 @@ def send_all(trip: Trip, sizes: Sequence[int], pause: float, wait: float, told: 
 
     before, trip.sender.on_data = trip.sender.on_data, take
     try:
+        due = time.monotonic()
         for number, size in enumerate(sizes):
             left[number] = time.monotonic()
             trip.sender.send(_HEAD.pack(tag, number) + bytes(size - _HEAD.size), trip.peer)
-            trip.drive(lambda: False, pause)
+            # What sending takes, and the system's clock adds, is made up for by the next pause. More is not: that would be a burst.
+            due = max(due + pause, left[number])
+            trip.drive(lambda: False, max(pause / 4, due - time.monotonic()))
             told(number + 1)
             if any(it.is_over for it in trip.all):
                 break
