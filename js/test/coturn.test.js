@@ -7,7 +7,7 @@ import { pause } from "../src/node/clock.js";
 import { Relay } from "../src/node/index.js";
 import { library } from "./module.js";
 import { endsWithin, fastClock } from "./relays.js";
-import { Servers, freePort, listens, skip } from "./turnserver.js";
+import { Servers, freePort, listens, serves, skip } from "./turnserver.js";
 
 const servers = new Servers(), echo = dgram.createSocket("udp4");
 let ports;
@@ -23,19 +23,19 @@ before(async () => {
     servers.start("quiet", ports.quiet, ["--no-tls", "--no-dtls", "--no-stun"]);
     echo.on("message", (data, { port, address }) => echo.send(data, port, address));
     await new Promise((resolve) => echo.bind(0, "127.0.0.1", resolve));
-    await Promise.all([listens(ports.plain), listens(ports.secure), listens(ports.quiet)]);
+    await Promise.all([serves(ports.plain), listens(ports.secure), serves(ports.quiet)]);
 });
 
 test("coturn that was restarted on its port: check says that it no longer knows the relayed address", { skip }, async () => {
     const port = await freePort(), options = { urls: `turn:127.0.0.1:${port}`, username: "user", credential: "pass", library: await library() };
     const server = servers.start("before", port, []);
-    await listens(port);
+    await serves(port);
     const relay = await Relay.open(options), ended = new Promise((resolve) => server.once("exit", resolve));
     assert.deepEqual([(await relay.check()).isAnswered, (await relay.check()).isAllocated], [true, true]);
     server.kill("SIGKILL");
     await ended;
     servers.start("after", port, []);
-    await listens(port);
+    await serves(port);
     const { isAnswered, isAllocated } = await relay.check();
     assert.deepEqual([isAnswered, isAllocated, relay.closed], [true, false, false]);
     await relay.close();

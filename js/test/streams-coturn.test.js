@@ -11,7 +11,7 @@ import { promisify } from "node:util";
 import { Relay } from "../src/node/index.js";
 import { library } from "./module.js";
 import { next, until } from "./relays.js";
-import { Servers, freePort, listens, skip } from "./turnserver.js";
+import { Servers, freePort, listens, serves, skip } from "./turnserver.js";
 
 /** So much comes back: over TLS coturn stops reading where megabytes are under way. */
 // coturn stops reading a stream that it cannot write at once: both ways at a time carry less than its buffers hold.
@@ -39,7 +39,7 @@ before(async () => {
     servers.start("server", ports.plain, ["--no-dtls", "--tls-listening-port", String(ports.secure), "--cert", servers.cert, "--pkey",
         servers.key]);
     echo = await peers((socket) => socket.pipe(socket));
-    await Promise.all([listens(ports.plain), listens(ports.secure)]);
+    await Promise.all([serves(ports.plain), listens(ports.secure)]);
 });
 
 after(() => {
@@ -133,7 +133,7 @@ test("the program of README.md prints what it says", { skip }, async () => {
 
 test("a coturn that is killed ends the stream and the relay", { skip, timeout: 20_000 }, async () => {
     const port = await freePort(), server = servers.start("killed", port, []);
-    await listens(port);
+    await serves(port);
     const relay = await open({ urls: `turn:127.0.0.1:${port}?transport=tcp` }), stream = await relay.connect(echo.port, "127.0.0.1");
     const ended = next(relay, "error"), closed = next(stream.on("error", () => {}).resume(), "close");
     const writing = setInterval(() => stream.writable && stream.write("x"), 5).unref();

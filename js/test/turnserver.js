@@ -1,6 +1,6 @@
 // coturn for tests, on 127.0.0.1.
 import { execFileSync, spawn } from "node:child_process";
-import { mkdtempSync, rmSync } from "node:fs";
+import { mkdtempSync, readFileSync, rmSync } from "node:fs";
 import net from "node:net";
 import { tmpdir } from "node:os";
 import path from "node:path";
@@ -27,20 +27,38 @@ export async function freePort() {
     return port;
 }
 
-/** Waits until a server listens on a port. */
-export async function listens(port) {
-    for (let tries = 0; tries < 100; tries++) {
-        const isThere = await new Promise((resolve) => {
-            const socket = net.connect(port, "127.0.0.1", () => resolve(true));
-            socket.on("error", () => resolve(false));
-            socket.on("connect", () => socket.destroy());
-        });
-        if (isThere) {
+/** Whether something accepts connections on a port. */
+async function accepts(port) {
+    const socket = net.connect(port, "127.0.0.1");
+    const isThere = await new Promise((resolve) => socket.once("connect", () => resolve(true)).once("error", () => resolve(false)));
+    socket.destroy();
+    return isThere;
+}
+
+/** Whether something takes datagrams on a port, as the kernel tells. */
+function takesDatagrams(port) {
+    const local = `0100007F:${port.toString(16).toUpperCase().padStart(4, "0")}`;
+    return readFileSync("/proc/net/udp", "ascii").split("\n").some((row) => row.trim().split(/\s+/)[1] === local);
+}
+
+async function until(isThere) {
+    for (let tries = 0; tries < 600; tries++) {
+        if (await isThere()) {
             return;
         }
         await new Promise((resolve) => setTimeout(resolve, 50));
     }
     throw new Error("turnserver does not listen");
+}
+
+/** Waits until a server accepts connections on a port, as of TLS. */
+export function listens(port) {
+    return until(() => accepts(port));
+}
+
+/** Waits until a server accepts connections on a port, and takes datagrams, which coturn does a little later. */
+export function serves(port) {
+    return until(async () => takesDatagrams(port) && await accepts(port));
 }
 
 /** The servers of a file of tests, and the folder where they write. */
