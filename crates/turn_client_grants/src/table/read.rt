@@ -121,11 +121,7 @@ impl GrantTable {
 
     /// The first of these addresses that is granted at this position among all grants or behind it, and the
     /// position behind that grant.
-    pub fn next_permitted(
-        &self,
-        family: AddressFamily,
-        position: usize,
-    ) -> Option<(IpAddr, usize)>
+    pub fn next_permitted(&self, family: AddressFamily, position: usize) -> Option<(IpAddr, usize)>
         ensures { result ≡ next_permitted family position self.now.grants }
     {
         reads::next_permitted(self.grants.as_slice(), family, position)

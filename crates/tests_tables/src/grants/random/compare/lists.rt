@@ -72,16 +72,28 @@ fn next_permitted(rt: &impl Abort, ledger: &GrantLedger, plain: &Plain, n: u8) {
     let is_in_use = plain.has_relayed(n);
     let mut behind = plain.rows.len();
     let mut next = None;
-    same(rt, ledger.next_permission(TRANSPORT, address(n), behind), None);
+    same(
+        rt,
+        ledger.next_permission(TRANSPORT, address(n), behind),
+        None,
+    );
     for row in plain.rows.iter().rev() {
         if row.permits(is_ipv6(n)) && is_in_use {
             next = Some((address(row.peer).ip(), behind));
         }
         behind = behind.saturating_sub(1);
-        same(rt, ledger.next_permission(TRANSPORT, address(n), behind), next);
+        same(
+            rt,
+            ledger.next_permission(TRANSPORT, address(n), behind),
+            next,
+        );
     }
     same(rt, behind, 0);
-    same(rt, ledger.next_permission(TransportType::Udp, address(n), 0), None);
+    same(
+        rt,
+        ledger.next_permission(TransportType::Udp, address(n), 0),
+        None,
+    );
 }
 
 impl Plain {
