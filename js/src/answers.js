@@ -1,4 +1,4 @@
-// What the calls of a client answer, and the events that it tells, as plain objects.
+// What the calls of a client answer, and the events that it reports, as plain objects.
 import { addressAt } from "./address.js";
 import { ANSWER, KIND, TRANSPORTS } from "./layout.js";
 import { timeAt } from "./time.js";
@@ -98,7 +98,7 @@ import { timeAt } from "./time.js";
  * @typedef {{ kind: "tcp-connect-failed", peer: Address }} TcpConnectFailed
  */
 /**
- * What a client tells without being asked.
+ * What a client reports without being asked.
  * @typedef {AllocationCreated | AllocationCreateFailed | PermissionCreated | PermissionCreateFailed | ChannelCreated |
  *     ChannelCreateFailed | TcpConnected | TcpConnectFailed} Event
  */

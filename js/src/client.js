@@ -197,7 +197,7 @@ export class Client {
 
     /**
      * As `recv`, for `length` bytes of a buffer from `offset` on, without a copy and without an object for each packet: data of a
-     * peer is told by one object, which the client's next `recvFrom` overwrites. Its `start` is in the buffer.
+     * peer is described by one object, which the client's next `recvFrom` overwrites. Its `start` is in the buffer.
      * @param {import("./buffer.js").ModuleBuffer} buffer
      * @param {number} offset
      * @param {number} length
@@ -252,7 +252,7 @@ export class Client {
 
     /**
      * As `sendTo`, for `length` bytes of a buffer from `offset` on: the packet is put to the front of the buffer `into`, which has 64
-     * bytes more, and is told by one object, which the client's next `sendFrom` overwrites. RangeError also where both overlap.
+     * bytes more, and is described by one object, which the client's next `sendFrom` overwrites. RangeError also where both overlap.
      * @param {AddressLike} peer
      * @param {import("./buffer.js").ModuleBuffer} buffer
      * @param {number} offset
@@ -277,7 +277,7 @@ export class Client {
     // Requests
 
     /**
-     * Requests a permission for an IP address (RFC 8656, section 9). An event tells the outcome. `Refused`: `no-allocation`,
+     * Requests a permission for an IP address (RFC 8656, section 9). An event reports the outcome. `Refused`: `no-allocation`,
      * `already-exists`.
      * @param {string} ip
      * @param {Time} now
@@ -288,7 +288,7 @@ export class Client {
     }
 
     /**
-     * Requests a channel, and with it a permission (RFC 8656, section 12). An event tells the outcome. `Refused`: `no-allocation`;
+     * Requests a channel, and with it a permission (RFC 8656, section 12). An event reports the outcome. `Refused`: `no-allocation`;
      * `already-exists`, also where all 4,096 numbers are taken; `expired`, up to `until`.
      * @param {AddressLike} peer
      * @param {Time} now

@@ -1,4 +1,4 @@
-"""What the calls of `client.Client` answer, and the events that it tells, as types."""
+"""What the calls of `client.Client` answer, and the events that it reports, as types."""
 from __future__ import annotations
 
 from dataclasses import dataclass
@@ -189,7 +189,7 @@ _EVENTS: Dict[int, Callable[[c.Answer], Event]] = {
 
 
 def event_of(answer: c.Answer) -> Optional[Event]:
-    """The event that an answer tells, or None."""
+    """The event that an answer reports, or None."""
     make = _EVENTS.get(answer.kind)
     return make(answer) if make else None
 

@@ -160,7 +160,7 @@ class Client:
         return packet_of(self._handle.last()[0], sent)
 
     def data_to(self, peer: AddressLike, data: Buffer, now: int) -> bytes:
-        """The bytes of `send_to` alone, for a client with one socket, the one to the server."""
+        """Only the bytes of `send_to`, for a client with one socket, the one to the server."""
         sent = self._send(now, packed(peer), data)
         if sent is None:
             raise _refusal(self._handle)
@@ -195,14 +195,14 @@ class Client:
     # Requests
 
     def create_permission(self, ip: str, now: int, *, transport: Optional[str] = None) -> None:
-        """Requests a permission for an IP address (RFC 8656, section 9). An event tells the outcome.
+        """Requests a permission for an IP address (RFC 8656, section 9). An event reports the outcome.
 
         `Refused`: `no-allocation`, `already-exists`.
         """
         self._ask(now, c.CREATE_PERMISSION, transport=self._relay(transport), peer=packed_ip(ip))
 
     def bind_channel(self, peer: AddressLike, now: int, *, transport: Optional[str] = None) -> None:
-        """Requests a channel, and with it a permission (RFC 8656, section 12). An event tells the outcome.
+        """Requests a channel, and with it a permission (RFC 8656, section 12). An event reports the outcome.
 
         `Refused`: `no-allocation`; `already-exists`, also where all 4,096 numbers are taken; `expired`, up to `until`.
         """

@@ -139,9 +139,9 @@ class RelayTransport(asyncio.DatagramTransport):
             asyncio.get_running_loop().call_soon(self.protocol.error_received, error)
 
     def sendto(self, data: Any, addr: Optional[Any] = None) -> None:
-        """Sends data to a peer, when it has a channel. Where the server lets it have none, the data is dropped, and the protocol's
-        `error_received` told, as where it is too long. `ValueError` where there is no peer, one that is no IP address, or another
-        one than `remote_addr`; `TypeError` where the data is none."""
+        """Sends data to a peer, when it has a channel. If the server lets it have none, the data is dropped, and the protocol's
+        `error_received` called, as for data that is too long. `ValueError` if there is no peer, one that is no IP address, or
+        another one than `remote_addr`; `TypeError` where the data is none."""
         if not isinstance(data, (bytes, bytearray, memoryview)):
             raise TypeError(f"data is bytes, a bytearray or a memoryview, and not {type(data).__name__}")
         peer = checked_peer(addr) if addr is not None else self._remote
@@ -184,7 +184,7 @@ class RelayTransport(asyncio.DatagramTransport):
         except Refused:
             self._bound.discard(peer)  # Its permission is gone: it is asked for with the next packet.
         except YarrowdoorError:
-            pass  # The client has just ended, which `connection_lost` tells.
+            pass  # The client has just ended, which `connection_lost` reports.
         except ValueError as error:
             self._tell(OSError(errno.EMSGSIZE, str(error)))
         except MemoryError as error:

@@ -28,9 +28,9 @@ class Refused(YarrowdoorError):
     used again).
 
     `reason` is one of `already-exists` (it is active, or requested already), `no-allocation`, `no-permission` (the peer has
-    none), `no-socket` (there is no data connection to the peer) and `expired` (the peer had a channel, and may have another
-    only after `until`, a time of the client in nanoseconds; RFC 8656, section 12). The text is the reason, and what else there
-    is to say of it.
+    none), `no-socket` (there is no data connection to the peer), `not-granted` (`release` and `keep`: the peer has no such
+    permission or channel) and `expired` (the peer had a channel, and may have another only after `until`, a time of the client
+    in nanoseconds; RFC 8656, section 12). The text is the reason, and what else there is to say of it.
     """
 
     def __init__(self, reason: str, until: int = 0, detail: str = "") -> None:

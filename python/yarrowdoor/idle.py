@@ -1,4 +1,4 @@
-"""Peers that nobody sends to and nobody hears from are let go, and kept again when they come back."""
+"""Peers without data in either direction are released, and kept again when they come back."""
 from __future__ import annotations
 
 import asyncio

@@ -56,8 +56,8 @@ class Relay(Told, Opened):
     gives them. Peers have to be told the new address: `Up.is_new` says so.
 
     Meanwhile `sendto` drops data, which `unsent` counts. So does `send`, or with `waits=True` it waits until the relay is up.
-    Requests wait. `lost` and `on_lost` tell what the server did not grant again. `credentials` is as for a `TurnClient`, and asked
-    at each try.
+    Requests wait. `lost` and `on_lost` report what the server did not grant again. `credentials` is as for a `TurnClient`, and
+    asked at each try.
 
     Every `probe` seconds the path is checked, or never with None. Where a check has no answer, the server is asked by a signed
     request, so that one that answers no check, as coturn with `--no-stun`, does no harm. A server over UDP that was restarted

@@ -56,17 +56,17 @@ class TurnClient(Told, Lifetime):
     always, `"disabled"` never, and `"auto"` never so far. `max_stale_nonces` is how many challenges in a row are answered. It
     should be greater than the number of permissions and channels: their refreshes may all be challenged at once, and that of the
     relayed address too. In place of user and password `credentials` is both, or a function that returns both, async or not: it is
-    called when the client is opened. A peer that was neither sent to nor heard from for `idle` seconds is released, and kept again
-    when it is; by default none is. Where the server names another one (RFC 8489, section 10), that one is asked in its place, up to
-    `redirects` times, over TLS with a certificate for the name in `uri`. Nobody has signed that answer: anyone who sees the first
+    called when the client is opened. A peer without data in either direction for `idle` seconds is released, and kept again
+    when there is some; by default none is. If the server names another one (RFC 8489, section 10), that one is asked instead, up
+    to `redirects` times, over TLS with a certificate for the name in `uri`. That answer is unsigned: anyone who sees the first
     request may send it. `local_addr` and `socket_family` are those of the socket to the server, as asyncio has `local_addr` and
     `family`. With `sock`, a connected socket over what the URI says, the name is not looked up: the client uses this socket from
     `open` on, and closes it.
 
-    Peers are IP addresses with ports; names are not resolved. What is counted and told:
+    Peers are IP addresses with ports; names are not resolved. What is counted and reported:
 
     - `dropped`: packets of peers that came and were dropped, since `queue` of them were waiting.
-    - `unsent`: packets to peers that the socket did not take. What is lost further on, nobody counts.
+    - `unsent`: packets to peers that the socket did not take. Losses further on are not counted.
     - `lost`: the last 1,024 permissions and channels that the server no longer renews, as `Lost`; `on_lost`, if it is set, is
       called with each.
     - `on_error`, if it is set, is called with each error of a socket over UDP that does not end it, as when a network goes.
@@ -78,7 +78,7 @@ class TurnClient(Told, Lifetime):
     Where the server's name has several addresses, an attempt with the next one begins after 250 ms (RFC 8305), and the first one
     that answers is used.
 
-    Over UDP the relay ends when the system refuses several packets in a row. A server that is silent is told by `on_lost`, at most
+    Over UDP the relay ends when the system refuses several packets in a row. A silent server is reported by `on_lost`, at most
     five minutes after the last renewal of a permission, and `closed` becomes True when the relayed address expires, up to half an
     hour after its last renewal; with `probe=15` within a minute. Over TCP and TLS a silent server ends the relay within a minute,
     and a route that is gone within 20 s. `address` keeps its last value.
@@ -156,7 +156,7 @@ class TurnClient(Told, Lifetime):
 
     @property
     def addresses(self) -> List[Address]:
-        """All relayed addresses: with `family=(4, 6)` one of each family that the server has granted, else `address` alone.
+        """All relayed addresses: with `family=(4, 6)` one of each family that the server has granted, else only `address`.
 
         `Ended` where there never was one.
         """
@@ -166,7 +166,7 @@ class TurnClient(Told, Lifetime):
     @property
     def mapped_address(self) -> Optional[Address]:
         """This client's own address as the server saw it at the beginning, or None where it did not say it (RFC 8489, section
-        14.2). `check` tells it as it is now."""
+        14.2). `check` returns the present one."""
         return self._phase.mapped if isinstance(self._phase, Session) else None
 
     @property
@@ -205,8 +205,8 @@ class TurnClient(Told, Lifetime):
 
     def release(self, peer: Union[str, AddressLike]) -> None:
         """Lets go what a peer was granted: with an address its channel, with an IP address its permission. It is used as before,
-        and refreshed no more, so that it ends after 10 or 5 minutes, which neither `lost` nor `on_lost` tells. `Refused`
-        (`not-granted`) where there is none. Release both, or the channel alone where another port uses the permission."""
+        and refreshed no more, so that it ends after 10 or 5 minutes, which neither `lost` nor `on_lost` reports. `Refused`
+        (`not-granted`) where there is none. Release both, or only the channel if another port uses the permission."""
         self._session().grants.set_kept(checked_ip(peer) if isinstance(peer, str) else checked_peer(peer), False)
 
     def keep(self, peer: Union[str, AddressLike]) -> None:

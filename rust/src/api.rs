@@ -89,7 +89,7 @@ pub trait TurnClientApi: Debug + Send {
     /// allocations).
     fn delete(&mut self, now: Instant) -> Result<(), DeleteError>;
 
-    /// Requests a permission for a peer, whatever its port (RFC 8656, section 9). An event tells the outcome.
+    /// Requests a permission for a peer, whatever its port (RFC 8656, section 9). An event reports the outcome.
     ///
     /// # Errors
     ///
@@ -105,7 +105,7 @@ pub trait TurnClientApi: Debug + Send {
     /// Whether a peer has an active permission.
     fn have_permission(&self, transport: TransportType, to: IpAddr) -> bool;
 
-    /// Requests a channel to a peer, and with it a permission (RFC 8656, section 12). An event tells the
+    /// Requests a channel to a peer, and with it a permission (RFC 8656, section 12). An event reports the
     /// outcome.
     ///
     /// # Errors

@@ -18,7 +18,7 @@ macro_rules! own_calls {
             /// One that is let go is used until it expires, which the event `PermissionCreateFailed` reports, and it may be
             /// kept again until then. A later permission for the address is a new one, and kept. It sends nothing.
             ///
-            /// A channel to a peer and the permission for it are two grants: let both go, or the channel alone where other
+            /// A channel to a peer and the permission for it are two grants: release both, or only the channel if other
             /// ports use the permission.
             ///
             /// # Errors

@@ -96,7 +96,7 @@ impl fmt::Display for NoFrame {
 impl Error for NoFrame {}
 
 /// Reads the first frame of bytes that came from the server over this transport: a datagram, or what a stream brought. It is
-/// `None` where more bytes are needed, over TCP alone.
+/// `None` where more bytes are needed, only over TCP.
 ///
 /// # Errors
 ///

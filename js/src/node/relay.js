@@ -42,7 +42,7 @@ export class Relay extends Sending {
      * @type {import("./grants.js").Lost[]}
      */
     lost = [];
-    /** How many packets of `sendTo` the socket did not take. What is lost further on, nobody counts. */
+    /** How many packets of `sendTo` the socket did not take. Losses further on are not counted. */
     unsent = 0;
     #family;
     #allocation;
@@ -225,7 +225,7 @@ export class Relay extends Sending {
 
     /**
      * Lets go what a peer was granted: of an IP address its permission, of a peer its channel. It is used as before, and refreshed
-     * no more, so that it ends after 5 or 10 minutes, which `lost` does not tell. `Refused` (`not-granted`) where there is none.
+     * no more, so that it ends after 5 or 10 minutes, which `lost` does not report. `Refused` (`not-granted`) where there is none.
      * @param {string | AddressLike} about
      */
     release(about) {
