@@ -78,6 +78,16 @@ pub(crate) fn client_with_limit(
     Ok(TurnClientUdp::allocate(alloc, local(), server(), config, [0; 32])?)
 }
 
+/// A new client over UDP, whose requests wait for their responses from when they are sent, or else from when they are made.
+pub(crate) fn client_by_send(
+    alloc: Global,
+    timed_from_send: bool,
+) -> Result<TurnClientUdp, CredentialsError> {
+    let mut config = config(alloc)?;
+    config.set_requests_timed_from_send(timed_from_send);
+    Ok(TurnClientUdp::allocate(alloc, local(), server(), config, [0; 32])?)
+}
+
 /// A new client over UDP for a slow link: it waits for 3 s before it sends a request again, and answers so many challenges in a row.
 pub(crate) fn client_over_slow_link(
     alloc: Global,

@@ -40,4 +40,6 @@ mod server;
 #[cfg(test)]
 mod slow_link;
 #[cfg(test)]
+mod timed_from_send;
+#[cfg(test)]
 mod times;

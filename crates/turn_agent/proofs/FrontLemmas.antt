@@ -6,7 +6,7 @@ use Rattle.std.proofs.lemmas.Bool.{or_parts, lt-ltb}
 use Rattle.std.proofs.lemmas.List.{length-append, length-set, take-append-le, take-set-le}
 use Rattle.turn_stun.specs.declared.transport.TransportType.{TransportType}
 use Rattle.turn_agent.specs.Agent.{is_due}
-use Rattle.turn_agent.specs.Front.{IsFront}
+use Rattle.turn_agent.specs.Front.{IsFront, no_front}
 use Rattle.turn_agent.specs.Schedule.{Timers}
 use Rattle.turn_agent.specs.declared.front.Front.{Front}
 use Rattle.turn_agent.specs.declared.transaction.Transaction.{Transaction}
@@ -45,6 +45,10 @@ IsPassed-all timers transport now ts place until is past =
     position-unpassed (is_due timers transport now) ts (rw (all, take-length ts) at is.none)
 
 -- ---- changes
+
+-- nothing is known of any request
+pub IsFront-none : (timers : Timers) (transport : TransportType) (ts : List Transaction) → IsFront timers transport ts no_front
+IsFront-none timers transport ts = record { within = omega arith; waits = λ now before. take_nothing (is_due timers transport now) ts }
 
 -- one more request
 pub IsFront-push : (timers : Timers) (transport : TransportType) (ts more : List Transaction) (front : Front) → IsFront timers transport ts front → IsFront timers transport (ts ++ more) front

@@ -3,7 +3,7 @@ use Rattle.std.proofs.Common.{◌≡◌, ℕ, zero, suc, ◌<◌, ◌≤◌, Boo
 use Rattle.std.proofs.lemmas.Bool.{cases_Bool, or_parts, eq-eqb, eqb-true, ne_eqb, eqb-false}
 use Rattle.std.proofs.lemmas.List.{length-append}
 use Rattle.std.proofs.lemmas.List.Folds.{list_any-append}
-use Rattle.turn_agent.specs.Agent.{is_outstanding, AreDistinct, AreIdsOf, without_transaction, resent, sent_again}
+use Rattle.turn_agent.specs.Agent.{is_outstanding, AreDistinct, AreIdsOf, without_transaction, resent, sent_again, waiting_from, waits_begun}
 use Rattle.turn_agent.specs.declared.transaction.Transaction.{Transaction}
 
 -- two numbers differ in either order
@@ -105,6 +105,46 @@ length-resent id now (t ∷ ts) = grind (arith, length-resent id now ts)
 pub length-without : (id : ℕ) (ts : List Transaction) → length (without_transaction id ts) ≤ length ts
 length-without id [] = omega arith
 length-without id (t ∷ ts) = grind (arith, length-without id ts)
+
+-- ---- waits that begin later
+
+-- if the ID is not outstanding, none begins
+pub begun-none : (id time : ℕ) (ts : List Transaction) → is_outstanding id ts ≡ false → waits_begun id time ts ≡ ts
+begun-none id time [] none = refl
+begun-none id time (t ∷ ts) none =
+    let parts = or_parts (eqb t.id id) (is_outstanding id ts) none in
+    rw (parts.0, begun-none id time ts parts.1) refl
+
+-- to begin those of the one at a place is to do so by its ID
+pub set-begun : (time : ℕ) (ts : List Transaction) (i : ℕ) (d : Transaction) → AreDistinct ts → i < length ts → set ts i (waiting_from time (get_or ts i d)) ≡ waits_begun (get_or ts i d).id time ts
+set-begun time [] i d distinct within = absurd (omega arith)
+set-begun time (t ∷ ts) zero d distinct within = rw (eq-eqb t.id t.id refl, begun-none t.id time ts distinct.0) refl
+set-begun time (t ∷ ts) (suc i) d distinct within =
+    let inside : i < length ts = omega arith in
+    let differ = eqb-false_back _ _ (other_id_at t.id ts i d distinct.0 inside) in
+    rw (differ, set-begun time ts i d distinct.1 inside) refl
+
+-- the request keeps its ID
+is_outstanding-begun : (id other time : ℕ) (ts : List Transaction) → is_outstanding other (waits_begun id time ts) ≡ is_outstanding other ts
+is_outstanding-begun id other time [] = refl
+is_outstanding-begun id other time (t ∷ ts) = elim (cases_Bool (eqb t.id id)) [
+  | inl same ↦ rw (same, is_outstanding-begun id other time ts) refl
+  | inr differ ↦ rw (differ, is_outstanding-begun id other time ts) refl
+]
+
+pub AreDistinct-begun : (id time : ℕ) (ts : List Transaction) → AreDistinct ts → AreDistinct (waits_begun id time ts)
+AreDistinct-begun id time [] distinct = tt
+AreDistinct-begun id time (t ∷ ts) distinct =
+    let here : is_outstanding t.id (waits_begun id time ts) ≡ false = rw (is_outstanding-begun id t.id time ts) distinct.0 in
+    let others = AreDistinct-begun id time ts distinct.1 in
+    elim (cases_Bool (eqb t.id id)) [ inl same ↦ rw same (here, others) | inr differ ↦ rw differ (here, others) ]
+
+pub length-begun : (id time : ℕ) (ts : List Transaction) → length (waits_begun id time ts) ≡ length ts
+length-begun id time [] = refl
+length-begun id time (t ∷ ts) = grind (arith, length-begun id time ts)
+
+pub AreIdsOf-begun : (id time : ℕ) (ts : List Transaction) (has : ℕ → Bool) → AreIdsOf ts has → AreIdsOf (waits_begun id time ts) has
+AreIdsOf-begun id time ts has were = λ q. were q ∙ sym (is_outstanding-begun id q time ts)
 
 -- ---- the set of the IDs
 

@@ -36,6 +36,10 @@ first_sent id to now request = record { id = id; to = to; resends = 0; last_send
 abbrev pub sent_again : ℕ → Transaction → Transaction
 sent_again now t = record t { resends = t.resends + 1; last_send = now }
 
+-- the transaction whose waits begin at this time
+abbrev pub waiting_from : ℕ → Transaction → Transaction
+waiting_from time t = record t { last_send = time }
+
 -- when the wait after its last send ends; the greatest time is 2^63 - 1
 abbrev pub transaction_timeout : Timers → TransportType → Transaction → ℕ
 transaction_timeout timers transport t = min (t.last_send + wait_at timers transport t.resends) (2 ^ 63 - 1)
@@ -70,6 +74,10 @@ without_transaction id transactions = filter (λ t. not (t.id == id)) transactio
 -- the transactions after the request with this ID was retransmitted at this time
 abbrev pub resent : ℕ → ℕ → List Transaction → List Transaction
 resent id now transactions = map (λ t. if t.id == id then sent_again now t else t) transactions
+
+-- the transactions after the waits of the request with this ID began at this time
+abbrev pub waits_begun : ℕ → ℕ → List Transaction → List Transaction
+waits_begun id time transactions = map (λ t. if t.id == id then waiting_from time t else t) transactions
 
 -- the two addresses are equal: IP, port and, for IPv6, flow information and scope
 abbrev pub same_address : SocketAddr → SocketAddr → Bool
@@ -106,6 +114,10 @@ next_timeout a now =
 -- the earlier of this time and the earliest time at which a wait ends
 abbrev pub earliest : Agent → ℕ → ℕ
 earliest a time = fold min time (map (transaction_timeout a.timers a.transport) a.transactions)
+
+-- the agent after the waits of the request with this ID began at this time
+abbrev pub transaction_begun : ℕ → ℕ → Agent → Agent
+transaction_begun id time a = record a { transactions = waits_begun id time a.transactions }
 
 -- the agent without the transaction with this ID
 abbrev pub transaction_removed : ℕ → Agent → Agent

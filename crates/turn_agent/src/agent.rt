@@ -5,7 +5,7 @@ ghost use Rattle.turn_stun.specs.Message.{type_of, id_of};
 ghost use Rattle.turn_stun.specs.MessageType.{class_of, IsResponse};
 ghost use Rattle.turn_agent.specs.Schedule.{wait_of, default_timers};
 ghost use Rattle.turn_agent.specs.Agent.{Agent, is_outstanding, resends_made, request_sent, due, answers, agent_poll_step, agent_transmit_step, handle_step, IsEnded};
-ghost use Rattle.turn_agent.specs.Agent.{IsSilentUntil, HasRequestDue, IsQuietUntil, earliest, transaction_removed};
+ghost use Rattle.turn_agent.specs.Agent.{IsSilentUntil, HasRequestDue, IsQuietUntil, earliest, transaction_begun, transaction_removed};
 ghost use Rattle.std.specs.List.{position};
 
 use crate::front::{Front, first_due};
@@ -280,6 +280,18 @@ impl StunAgent {
         });
         self.soonest = None;
         Ok(Transmit::new(bytes, self.schedule.transport, self.local_addr, to))
+    }
+
+    /// Begins the waits of the request with this ID at `now`: its first copy is sent then, for a caller
+    /// that counted the first send at a later time. Without such a request nothing changes.
+    pub fn begin_waits(&mut self, id: TransactionId, now: Instant)
+        ensures { self.new ≡ transaction_begun id now self.old }
+    {
+        if let Some(place) = self.place_of(id) {
+            self.transactions[place].last_send = now;
+            self.soonest = None;
+            self.front = Front::none();
+        }
     }
 
     /// Processes a message received from this address, and returns whether it is accepted: a response is,

@@ -22,7 +22,7 @@ use Rattle.turn_client_api.specs.Grants.{allocations, find_allocation_to, as_con
 use Rattle.turn_client_api.specs.Grants.{has_active_permission, as_offer, is_permission_of, permission_state, same_transport, with_allocations}
 use Rattle.turn_client_api.specs.Grants.{with_expired, with_grant, with_more_grants, without_grants}
 use Rattle.turn_client_api.specs.Requests.{request_started, connection_timed_out, id_used, fresh_id, lifetime_attribute, message_of, queued, refresh_method}
-use Rattle.turn_client_api.specs.Requests.{request_for, requested, signed, to_server, accepted_reply, refused_reply, replied}
+use Rattle.turn_client_api.specs.Requests.{request_for, requested, signed, to_server, accepted_reply, refused_reply, replied, waits_from}
 use Rattle.turn_client_api.specs.Effect.{closed, fail_all}
 use Rattle.turn_client_api.specs.Retry.{bind_time}
 use Rattle.turn_client_api.specs.Connections.{connection_at, is_connected, is_connecting}
@@ -141,7 +141,7 @@ bind_channel number peer now s =
     let ips = missing_permission peer s in
     in_sequence (
     with_more_grants (Channel number peer (Pending true) ∷ map (λ ip. Permission ip (Pending true)) ips)
-    ∷ request_started (fresh_id s) text (ForChannel number peer ∷ map ForPermission ips) now
+    ∷ request_started (fresh_id s) text (ForChannel number peer ∷ map ForPermission ips) (waits_from now s)
     ∷ queued true s.local text
     ∷ []
     ) s
@@ -292,7 +292,7 @@ abbrev pub deleted : ℕ → State → State
 deleted now s = in_sequence (
     without_grants is_granted_in
     ∷ all_expired now
-    ∷ request_started (fresh_id s) (delete_text s) (map (λ a. ForRefresh (family_of a.relayed) 0) (allocations s)) now
+    ∷ request_started (fresh_id s) (delete_text s) (map (λ a. ForRefresh (family_of a.relayed) 0) (allocations s)) (waits_from now s)
     ∷ queued true s.local (delete_text s)
     ∷ []
     ) s

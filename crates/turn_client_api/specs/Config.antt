@@ -27,6 +27,8 @@ pub record Config : Type 0 where
   pub keepalive : Option ℕ
   -- so long before its expiry a grant is refreshed, but not before half of its lifetime is over
   pub refresh_ahead : ℕ
+  -- the waits of a request begin when its first copy is given out, and not when the request is made
+  pub timed_from_send : Bool
 
 -- unless another limit is set (our choice)
 abbrev pub default_max_stale_nonces : ℕ

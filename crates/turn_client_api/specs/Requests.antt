@@ -20,7 +20,7 @@ use Rattle.turn_types.specs.declared.family.AddressFamily.TheVariants.{IPV6}
 use Rattle.turn_auth.specs.Signature.{Addition, with_additions, signed_text}
 use Rattle.turn_agent.specs.Agent.{first_sent, is_outstanding}
 use Rattle.turn_agent.specs.TransactionIds.{next_id, behind_id}
-use Rattle.turn_client_api.specs.State.{State, Purpose, ForAllocation, ForRefresh, ForPermission, ForChannel, ForConnect, ForBind, Listing, auth_of}
+use Rattle.turn_client_api.specs.State.{State, Purpose, ForAllocation, ForRefresh, ForPermission, ForChannel, ForConnect, ForBind, Listing, auth_of, max_time}
 use Rattle.turn_client_api.specs.Grants.{is_listed}
 
 -- ---- numbers of the standards
@@ -217,10 +217,16 @@ abbrev pub sent_from : State → Purpose → SocketAddr
 sent_from s (ForBind local peer connection_id) = local
 sent_from s _ = s.local
 
+-- From when on a request waits for its response that is made and queued now: from now on (our choice), or if the client is
+-- set so from when its first copy is given out (RFC 8489, section 6.2.1), before which no time comes that is as late as this.
+abbrev pub waits_from : ℕ → State → ℕ
+waits_from now s = if s.config.timed_from_send then max_time else now
+
 -- the request for a purpose is made under this ID, and queued
 abbrev pub requested : ℕ → Purpose → ℕ → State → State
 requested id purpose now s =
-    queued true (sent_from s purpose) (request_for s purpose id) (request_started id (request_for s purpose id) (purpose ∷ []) now s)
+    queued true (sent_from s purpose) (request_for s purpose id)
+    (request_started id (request_for s purpose id) (purpose ∷ []) (waits_from now s) s)
 
 -- ---- replies to CONNECTION_ATTEMPT (RFC 6062, section 4.4)
 

@@ -3,7 +3,7 @@ use Rattle.std.specs.Prelude.{ℕ, ◌+◌, Bool, true, false, List, find, Optio
 use Rattle.turn_auth.specs.LongTerm.{Challenge}
 use Rattle.turn_client_api.specs.State.{State, Phase, Requesting, Authenticating, Purpose, ForAllocation, ForRefresh, ForPermission, ForChannel, ForConnect}
 use Rattle.turn_client_api.specs.Grants.{purposes_of}
-use Rattle.turn_client_api.specs.Requests.{fresh_id, request_started, queued, request_for}
+use Rattle.turn_client_api.specs.Requests.{fresh_id, request_started, queued, request_for, waits_from}
 use Rattle.turn_client_api.specs.Effect.{transaction_ended}
 
 abbrev pub is_refresh : Purpose → Bool
@@ -52,7 +52,7 @@ abbrev pub state_after_retry : State → ℕ → Purpose → Challenge → ℕ �
 state_after_retry s id purpose challenge now =
     let t = with_held challenge (record (transaction_ended id s) { phase = phase_after s.phase; challenges = s.challenges + 1 }) in
     let text = request_for t purpose (fresh_id s) in
-    queued true s.local text (request_started (fresh_id s) text (purposes_of id s) now t)
+    queued true s.local text (request_started (fresh_id s) text (purposes_of id s) (waits_from now s) t)
 
 -- ---- CONNECTION_BIND
 

@@ -1,5 +1,5 @@
 -- When two configurations have the same settings.
-use Rattle.std.specs.Prelude.{ℕ, Bool, true, false, ◌==◌, ◌&&◌, Option, Some, None}
+use Rattle.std.specs.Prelude.{ℕ, Bool, true, false, not, ◌==◌, ◌&&◌, Option, Some, None}
 use Rattle.std.specs.Cmp.Lexicographic.{pointwise}
 use Rattle.turn_stun.specs.declared.transport.TransportType.{TransportType}
 use Rattle.turn_stun.specs.declared.transport.TransportType.TheVariants.{Udp, Tcp}
@@ -60,10 +60,16 @@ same_keepalive None (Some b) = false
 same_keepalive (Some a) None = false
 same_keepalive (Some a) (Some b) = a == b
 
+-- both are on, or both are off
+abbrev pub same_switch : Bool → Bool → Bool
+same_switch true on = on
+same_switch false on = not on
+
 -- both send and refresh at the same times
 abbrev pub same_times : Config → Config → Bool
 same_times a b =
     (a.request_cadence == b.request_cadence) && same_keepalive a.keepalive b.keepalive && (a.refresh_ahead == b.refresh_ahead)
+    && same_switch a.timed_from_send b.timed_from_send
 
 abbrev pub same_config : Config → Config → Bool
 same_config a b = same_request a b && same_user a b && same_limits a b && same_times a b

@@ -16,7 +16,7 @@ use Rattle.turn_auth.specs.declared.integrity.IntegrityAlgorithm.{IntegrityAlgor
 use Rattle.turn_auth.specs.declared.integrity.IntegrityAlgorithm.TheVariants.{Sha1, Sha256}
 use Rattle.turn_agent.specs.Schedule.{Timers}
 use Rattle.turn_client_api.specs.Config.{Config, same_family}
-use Rattle.turn_client_api.specs.SameConfig.{same_config, same_credentials, same_feature, same_keepalive, same_set_timers, same_timers}
+use Rattle.turn_client_api.specs.SameConfig.{same_config, same_credentials, same_feature, same_keepalive, same_set_timers, same_switch, same_timers}
 use Rattle.turn_client_api.specs.SameConfig.{same_allocation_transport}
 
 -- two tests decide whether two parts are the same
@@ -82,6 +82,12 @@ same_keepalive-Decides None (Some b) = (λ e. cc, λ e. cc)
 same_keepalive-Decides (Some a) None = (λ e. cc, λ e. cc)
 same_keepalive-Decides (Some a) (Some b) = in_other_words (unsigned_Decides a b) (λ e. ap Some e) (λ e. cc)
 
+same_switch-Decides : (a b : Bool) → Decides (same_switch a b) (a ≡ b)
+same_switch-Decides true true = (λ _. refl, λ _. refl)
+same_switch-Decides true false = (λ e. cc, λ e. cc)
+same_switch-Decides false true = (λ e. cc, λ e. cc)
+same_switch-Decides false false = (λ _. refl, λ _. refl)
+
 same_config-Decides : (a b : Config) → Decides (same_config a b) (a ≡ b)
 same_config-Decides a b =
     in_other_words
@@ -92,9 +98,10 @@ same_config-Decides a b =
     (pointwise_decides same_algorithm-Decides a.supported_integrity b.supported_integrity))
     (same_feature-Decides a.anonymous_username b.anonymous_username)))
     (both (same_set_timers-Decides a.request_timers b.request_timers) (unsigned_Decides a.max_stale_nonces b.max_stale_nonces)))
-    (both (both (unsigned_Decides a.request_cadence b.request_cadence) (same_keepalive-Decides a.keepalive b.keepalive))
-    (unsigned_Decides a.refresh_ahead b.refresh_ahead)))
-    (λ ((((transport, families), ((credentials, algorithms), anonymous)), (timers, limit)), ((cadence, keepalive), ahead)) i. record {
+    (both (both (both (unsigned_Decides a.request_cadence b.request_cadence) (same_keepalive-Decides a.keepalive b.keepalive))
+    (unsigned_Decides a.refresh_ahead b.refresh_ahead))
+    (same_switch-Decides a.timed_from_send b.timed_from_send)))
+    (λ ((((transport, families), ((credentials, algorithms), anonymous)), (timers, limit)), (((cadence, keepalive), ahead), timed)) i. record {
       allocation_transport = transport i;
       address_families = families i;
       credentials = credentials i;
@@ -105,6 +112,7 @@ same_config-Decides a b =
       request_cadence = cadence i;
       keepalive = keepalive i;
       refresh_ahead = ahead i;
+      timed_from_send = timed i;
     })
     (λ e. (
       (
@@ -114,7 +122,7 @@ same_config-Decides a b =
         ),
         (ap (λ c. c.request_timers) e, ap (λ c. c.max_stale_nonces) e),
       ),
-      ((ap (λ c. c.request_cadence) e, ap (λ c. c.keepalive) e), ap (λ c. c.refresh_ahead) e),
+      (((ap (λ c. c.request_cadence) e, ap (λ c. c.keepalive) e), ap (λ c. c.refresh_ahead) e), ap (λ c. c.timed_from_send) e),
     ))
 
 pub same_config-equivalence : IsEquivalence same_config

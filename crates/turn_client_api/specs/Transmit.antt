@@ -1,11 +1,13 @@
 -- What a client sends next (RFC 8489, section 6.2; RFC 8656, sections 8 to 12).
 use Rattle.std.specs.Prelude.{ℕ, ◌==◌, slice_get, drop, nat_le, nat_lt, Bool, false, ◌&&◌, if◌then◌else◌, List, [], ◌∷◌, filter, filter_map, flat_map, Option}
-use Rattle.std.specs.Prelude.{Some, None}
+use Rattle.std.specs.Prelude.{Some, None, is_none}
 use Rattle.turn_stun.specs.declared.transport.Transmit.{Transmit}
 use Rattle.std.specs.List.{list_any}
 use Rattle.std.specs.Option.{option_map_or}
+use Rattle.turn_stun.specs.Message.{header_fault_of, id_of}
 use Rattle.turn_types.specs.declared.family.AddressFamily.{AddressFamily}
-use Rattle.turn_agent.specs.Agent.{due, resent}
+use Rattle.turn_agent.specs.Agent.{due, resent, waits_begun}
+use Rattle.turn_agent.specs.declared.transaction.Transaction.{Transaction}
 use Rattle.turn_client_api.specs.State.{State, Phase, New, Requesting, Allocated, Grant, Allocation, Permission, Channel, Relay, Active, Purpose, ForAllocation}
 use Rattle.turn_client_api.specs.State.{ForRefresh, ForPermission, ForChannel, Queued, agent_of}
 use Rattle.turn_client_api.specs.Grants.{allocations, family_of, is_of}
@@ -91,9 +93,22 @@ idle_step New now s = sent_at_once (first_allocate s (fresh_id s)) ForAllocation
 idle_step Allocated now s = refresh_step now s
 idle_step _ now s = (None, s)
 
+-- the ID of a message with this header
+abbrev pub id_in_header : List ℕ → Option ℕ
+id_in_header bytes = if is_none (header_fault_of bytes) then Some (id_of bytes) else None
+
+-- if requests wait from their first copies on, and that of a request is given out now, its waits begin
+abbrev pub begun_by : ℕ → Queued → State → List Transaction
+begun_by now q s =
+    if s.config.timed_from_send && q.is_request
+    then option_map_or (λ id. waits_begun id now s.transactions) (id_in_header q.packet.payload) s.transactions else s.transactions
+
+-- the first queued packet is given out
+abbrev pub front_sent : ℕ → Queued → State → State
+front_sent now q s = sent now (record s { queue = drop 1 s.queue; transactions = begun_by now q s })
+
 abbrev pub queue_step : ℕ → State → Option (Transmit (List ℕ)) × State
-queue_step now s =
-    option_map_or (λ q. (Some q.packet, sent now (record s { queue = drop 1 s.queue }))) (slice_get s.queue 0) (idle_step s.phase now s)
+queue_step now s = option_map_or (λ q. (Some q.packet, front_sent now q s)) (slice_get s.queue 0) (idle_step s.phase now s)
 
 -- what is sent next: what is to be retransmitted, what is queued, and then what the client has to request
 abbrev pub transmit_step : ℕ → State → Option (Transmit (List ℕ)) × State

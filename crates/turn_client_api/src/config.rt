@@ -1,13 +1,13 @@
 //! What a client requests from its server, and with which credentials.
 
-ghost use Rattle.std.specs.Prelude.{◌≡◌, ◌<◌, ◌≤◌, ◌≢◌, [], ◌∷◌, Some, None, length, max, option_map, IfOk, AllPairs, Contains};
+ghost use Rattle.std.specs.Prelude.{◌≡◌, ◌<◌, ◌≤◌, ◌≢◌, [], ◌∷◌, Some, None, false, length, max, option_map, IfOk, AllPairs, Contains};
 ghost use Rattle.std.specs.Duration.{as_nanos};
 ghost use Rattle.std.specs.Int.NonZero.{non_zero_u16_get};
 ghost use Rattle.turn_agent.specs.Schedule.{wait_of};
 ghost use Rattle.turn_auth.specs.LongTerm.{with_algorithm};
 ghost use Rattle.turn_client_api.specs.Config.{Config, default_max_stale_nonces, default_refresh_ahead, default_request_cadence, least_keepalive};
 ghost use Rattle.turn_client_api.specs.Config.{least_refresh_ahead, timers_of, with_family};
-ghost use Rattle.turn_client_api.specs.SameConfig.{same_keepalive, same_limits, same_request, same_times, same_user};
+ghost use Rattle.turn_client_api.specs.SameConfig.{same_keepalive, same_limits, same_request, same_switch, same_times, same_user};
 
 use smallvec::SmallVec;
 use std::alloc::{AllocError, Global};
@@ -38,6 +38,7 @@ pub struct TurnConfig {
     request_cadence: Duration,
     keepalive: Option<Duration>,
     refresh_ahead: Duration,
+    requests_timed_from_send: bool,
 }
 
 impl Model for TurnConfig {
@@ -59,6 +60,7 @@ impl Model for TurnConfig {
       request_cadence = as_nanos c.request_cadence;
       keepalive = option_map as_nanos c.keepalive;
       refresh_ahead = as_nanos c.refresh_ahead;
+      timed_from_send = c.requests_timed_from_send;
     } };
 
     ghost invariant = { λ c. IsKeptConfig c.address_families c.supported_integrity };
@@ -82,6 +84,7 @@ impl TurnConfig {
           request_cadence = default_request_cadence;
           keepalive = None;
           refresh_ahead = default_refresh_ahead;
+          timed_from_send = false;
         } }
     {
         TurnConfig {
@@ -95,6 +98,7 @@ impl TurnConfig {
             request_cadence: Duration::from_millis(50),
             keepalive: None,
             refresh_ahead: Duration::from_secs(60),
+            requests_timed_from_send: false,
         }
     }
 
@@ -344,6 +348,30 @@ impl TurnConfig {
         self.refresh_ahead
     }
 
+    /// Sets whether the waits of a request begin when `poll_transmit` returns its first copy (RFC 8489,
+    /// section 6.2.1: a request is retransmitted from when it was sent), and not when it is made (our
+    /// choice). With the default pause a burst of requests leaves over seconds. A request that waits
+    /// from when it was made may then be retransmitted before its turn, which waits for no pause, and
+    /// time out before it has left; one that waits from its first copy leaves in its turn, and once. As
+    /// long as nobody takes its first copy it does not time out, and what it requests stays pending, at
+    /// the latest until the allocation is removed; after `delete` the client ends only once the REFRESH was
+    /// taken, and answered or timed out.
+    ///
+    /// By default they begin when the request is made.
+    pub fn set_requests_timed_from_send(&mut self, timed_from_send: bool)
+        ensures { self.new ≡ record self.old { timed_from_send = timed_from_send } }
+    {
+        self.requests_timed_from_send = timed_from_send;
+    }
+
+    /// Whether the waits of a request begin when its first copy is returned, as
+    /// `set_requests_timed_from_send` last set it, or else when the request is made.
+    pub fn requests_timed_from_send(&self) -> bool
+        ensures { result ≡ self.now.timed_from_send }
+    {
+        self.requests_timed_from_send
+    }
+
     /// A configuration with the same settings.
     ///
     /// # Errors
@@ -365,6 +393,7 @@ impl TurnConfig {
             request_cadence: self.request_cadence,
             keepalive: self.keepalive,
             refresh_ahead: self.refresh_ahead,
+            requests_timed_from_send: self.requests_timed_from_send,
         })
     }
 
@@ -400,6 +429,10 @@ impl TurnConfig {
         self.request_cadence.as_nanos() == other.request_cadence.as_nanos()
             && is_same_keepalive(self.keepalive, other.keepalive)
             && self.refresh_ahead.as_nanos() == other.refresh_ahead.as_nanos()
+            && is_same_switch(
+                self.requests_timed_from_send,
+                other.requests_timed_from_send,
+            )
     }
 }
 
@@ -411,6 +444,16 @@ fn at_least_a_second(wait: Duration) -> Duration
         return Duration::from_secs(1);
     }
     wait
+}
+
+/// Whether both are on, or both are off.
+fn is_same_switch(on: bool, other: bool) -> bool
+    ensures { result ≡ same_switch on other }
+{
+    if on {
+        return other;
+    }
+    !other
 }
 
 /// Whether both are never, or as long.

@@ -1,5 +1,5 @@
 -- The settings of a new client: what they may be, and its configuration.
-use Rattle.std.specs.Prelude.{ℕ, nat_le, ◌&&◌, if◌then◌else◌, List, [], ◌∷◌, length, Option, Some, None}
+use Rattle.std.specs.Prelude.{ℕ, false, nat_le, ◌&&◌, if◌then◌else◌, List, [], ◌∷◌, length, Option, Some, None}
 use Rattle.turn_stun.specs.declared.transport.TransportType.{TransportType}
 use Rattle.turn_stun.specs.declared.transport.TransportType.TheVariants.{Udp, Tcp}
 use Rattle.turn_types.specs.declared.family.AddressFamily.{AddressFamily}
@@ -54,4 +54,5 @@ config_with request credentials waits = record {
   request_cadence = default_request_cadence;
   keepalive = None;
   refresh_ahead = default_refresh_ahead;
+  timed_from_send = false;
 }

@@ -1,11 +1,13 @@
 -- What is sent next, and which requests time out.
-use Rattle.std.specs.Prelude.{ℕ, if◌then◌else◌, List, Option, Some, None, drop, filter_map, find, slice_get}
+use Rattle.std.specs.Prelude.{ℕ, Bool, ◌&&◌, if◌then◌else◌, List, Option, Some, None, drop, filter_map, find, slice_get}
 use Rattle.std.specs.Option.{option_map_or}
 use Rattle.turn_stun.specs.declared.transport.Transmit.{Transmit}
-use Rattle.turn_agent.specs.Agent.{is_due, is_timed_out, resent, without_transaction}
+use Rattle.turn_agent.specs.Agent.{is_due, is_timed_out, resent, waits_begun, without_transaction}
+use Rattle.turn_agent.specs.declared.transaction.Transaction.{Transaction}
 use Rattle.turn_client_api.specs.Due.{is_paused}
 use Rattle.turn_client_api.specs.State.{State}
-use Rattle.turn_client_api.specs.Transmit.{queue_step, reply_in, reply_step, without_first_reply}
+use Rattle.turn_client_api.specs.declared.state.Queued.{Queued}
+use Rattle.turn_client_api.specs.Transmit.{id_in_header, queue_step, reply_in, reply_step, without_first_reply}
 use Rattle.turn_client_core.specs.Outgoing.{Outgoing, packet_of}
 
 -- the oldest request that is due is retransmitted, to the same destination
@@ -21,10 +23,20 @@ resend_step now o =
 abbrev pub first_reply_step : Outgoing → Option (Transmit (List ℕ)) × Outgoing
 first_reply_step o = (slice_get (filter_map reply_in o.queue) 0, record o { queue = without_first_reply o.queue })
 
+-- if requests wait from their first copies on, and that of a request is sent, its waits begin
+abbrev pub begun_with : Bool → ℕ → Queued → Outgoing → List Transaction
+begun_with timed_from_send now q o =
+    if timed_from_send && q.is_request
+    then option_map_or (λ id. waits_begun id now o.transactions) (id_in_header q.packet.payload) o.transactions else o.transactions
+
 -- the first queued packet is sent
-abbrev pub front_step : ℕ → Outgoing → Option (Transmit (List ℕ)) × Outgoing
-front_step now o =
-    option_map_or (λ q. (Some q.packet, record o { queue = drop 1 o.queue; last_send = Some now })) (slice_get o.queue 0) (None, o)
+abbrev pub front_step : Bool → ℕ → Outgoing → Option (Transmit (List ℕ)) × Outgoing
+front_step timed_from_send now o =
+    option_map_or (λ q. (
+      Some q.packet,
+      record o { queue = drop 1 o.queue; transactions = begun_with timed_from_send now q o; last_send = Some now },
+    ))
+    (slice_get o.queue 0) (None, o)
 
 -- the oldest request whose last wait has ended times out
 abbrev pub give_up_step : ℕ → Outgoing → Option ℕ × Outgoing

@@ -36,6 +36,7 @@ someone address = initial Udp address address
       request_cadence = 0;
       keepalive = None;
       refresh_ahead = 0;
+      timed_from_send = false;
     })
     []
 

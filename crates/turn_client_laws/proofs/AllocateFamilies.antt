@@ -1,7 +1,7 @@
 -- An ALLOCATE requests the families of which an address is still requested.
 use Rattle.turn_client_laws.proofs.Common.{◌≡◌, ◌⊎◌, ◌≤◌, ◌+◌, ℕ, Bool, true, false, not, cond, ◌&&◌, eqb, List, [], ◌∷◌, ◌++◌, filter, length, Some, inl, inr, refl, sym, subst, ap, ◌∙◌, arith}
 use Rattle.turn_client_laws.proofs.Common.{Contains, list_any, eq-eqb, eqb-true, SocketAddr}
-use Rattle.turn_client_laws.proofs.Machine.{id_of, TransportType, AddressFamily, IPV6, first_sent, is_outstanding, resent, sent_again, Transaction, Config, State, initial, Phase, New, Requesting}
+use Rattle.turn_client_laws.proofs.Machine.{id_of, TransportType, AddressFamily, IPV6, first_sent, is_outstanding, resent, sent_again, waiting_from, waits_begun, Transaction, Config, State, initial, Phase, New, Requesting}
 use Rattle.turn_client_laws.proofs.Machine.{Allocated, Closed, Grant, Allocation, Purpose, ForAllocation, Listing, is_channel_of, is_connect_to, is_for, is_of, is_permission_of, purposes_of}
 use Rattle.turn_client_laws.proofs.Machine.{without_grants, request_started, listings, request_for, transaction_ended, phase_with, relayed_in, taken_addresses, phase_after, Leaves, Call, Has}
 use Rattle.turn_client_laws.proofs.Machine.{filter-has, has-append, has-filter, has-left, has-right, map-has}
@@ -189,6 +189,27 @@ resends-in_order id now s h = (h.0, h.1, all, h.3)
         let (x, is, same, asks) = h.2 z before (subst (λ (n : ℕ). Has (listing n ForAllocation) s.listed) named there) in
         (again x, map-has again x s.transactions is, same-id (eqb x.id id) x ∙ (same ∙ sym named), same-asks (eqb x.id id) x asks)
 
+starts-in_order : (id now : ℕ) (s : State) → StayInOrder s (record s { transactions = waits_begun id now s.transactions })
+starts-in_order id now s h = (h.0, h.1, all, h.3)
+  where
+    begun : Transaction → Transaction
+    begun x = cond (eqb x.id id) (waiting_from now x) x
+
+    same-id : (b : Bool) (x : Transaction) → (cond b (waiting_from now x) x).id ≡ x.id
+    same-id true x = refl
+    same-id false x = refl
+
+    same-asks : (b : Bool) (x : Transaction) → AsksForFamilies s.config s.families x → AsksForFamilies s.config s.families (cond b (waiting_from now x) x)
+    same-asks true x asks = asks
+    same-asks false x asks = asks
+
+    all : (y : Transaction) → Has y (waits_begun id now s.transactions) → Has (listing y.id ForAllocation) s.listed → HasAsked y.id (record s { transactions = waits_begun id now s.transactions })
+    all y here there =
+        let (z, before, e) = has-mapped begun y s.transactions here in
+        let named : y.id ≡ z.id = ap (λ (x : Transaction). x.id) e ∙ same-id (eqb z.id id) z in
+        let (x, is, same, asks) = h.2 z before (subst (λ (n : ℕ). Has (listing n ForAllocation) s.listed) named there) in
+        (begun x, map-has begun x s.transactions is, same-id (eqb x.id id) x ∙ (same ∙ sym named), same-asks (eqb x.id id) x asks)
+
 -- ---- the phase advances
 
 begins-in_order : (now : ℕ) (s : State) → s.phase ≡ New → StayInOrder s (record s { phase = Requesting; last_send = Some now })
@@ -227,6 +248,7 @@ StayInOrder-KeepsEdits = record {
     ends = ends-in_order;
     finishes = finishes-in_order;
     resends = resends-in_order;
+    starts = starts-in_order;
   };
   asks = λ id text purposes now s begun askable spelled h. asks-in_order id text purposes now s spelled h;
   unlists = λ which s. fewer which s;

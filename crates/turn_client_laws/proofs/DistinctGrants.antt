@@ -161,6 +161,7 @@ KeepsDistinctGrants-KeepsEdits = record {
     ends = λ s none. (λ u. absurd u, λ h. record { none = λ u. absurd u; single = h.single });
     finishes = λ id s. (λ u. u, λ h. h);
     resends = λ id now s. (λ u. u, λ h. h);
+    starts = λ id now s. (λ u. u, λ h. h);
   };
   asks = λ id text purposes now s begun askable spelled. (λ u. u, λ h. h);
   unlists = λ which s. (λ u. u, λ h. h);

@@ -2,7 +2,7 @@
 -- call: a new law of what calls keep is one record.
 use Rattle.turn_client_laws.proofs.Common.{arith, ◌≡◌, ℕ, Bool, true, false, List, [], ◌∷◌, ◌++◌, map, filter, length, Some, None, ◌⊎◌, ◌<◌, ◌≤◌, ◌+◌, ◌∙◌, sym, ap, refl, IsSome, ⊤, list_any, IpAddr}
 use Rattle.turn_client_laws.proofs.Common.{SocketAddr}
-use Rattle.turn_client_laws.proofs.Machine.{AddressFamily, IPV6, Challenge, resent, State, New, Requesting, Authenticating, Allocated, Closed, Grant, Allocation, Permission, Channel, Connect, Offer}
+use Rattle.turn_client_laws.proofs.Machine.{AddressFamily, IPV6, Challenge, resent, waits_begun, State, New, Requesting, Authenticating, Allocated, Closed, Grant, Allocation, Permission, Channel, Connect, Offer}
 use Rattle.turn_client_laws.proofs.Machine.{Connection, DataConnection, Relay, Progress, Pending, Active, Reserved, Origin, OwnConnect, ServerIndication, Purpose, ForAllocation, ForConnect, Listing}
 use Rattle.turn_client_laws.proofs.Machine.{Queued, Stream, family_of, family_of_ip, is_channel_of, is_connect_to, is_connection_from, is_of, is_permission_of, permission_state, purposes_of}
 use Rattle.turn_client_laws.proofs.Machine.{with_grant, without_grants, request_started, first_allocate, request_for, challenge_in, challenges_reset, transaction_ended, new_allocation, phase_with}
@@ -116,6 +116,8 @@ pub record KeepsRest (R : State → State → Type 0) : Type 0 where
   -- requests end, and are retransmitted
   pub finishes : (id : ℕ) (s : State) → R s (transaction_ended id s)
   pub resends : (id now : ℕ) (s : State) → R s (record s { transactions = resent id now s.transactions })
+  -- the waits of one begin once its first copy is given out
+  pub starts : (id now : ℕ) (s : State) → R s (record s { transactions = waits_begun id now s.transactions })
 
 pub record KeepsEdits (R : State → State → Type 0) : Type 0 where
   pub rest : KeepsRest R
@@ -188,6 +190,7 @@ rest-ignored R ignores trans = record {
   ends = λ s none. ignores s (record s { phase = Closed });
   finishes = λ id s. ignores s (transaction_ended id s);
   resends = λ id now s. ignores s (record s { transactions = resent id now s.transactions });
+  starts = λ id now s. ignores s (record s { transactions = waits_begun id now s.transactions });
 }
 
 -- streams do not count

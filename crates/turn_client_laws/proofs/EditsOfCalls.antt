@@ -4,7 +4,7 @@ use Rattle.turn_client_laws.proofs.Common.{list_any, and_parts, not-false, not-t
 use Rattle.turn_client_laws.proofs.Machine.{TransportType, Tcp, same_address, State, later_by, Phase, Allocated, Grant, Allocation, Permission, Channel, Connect, Connection, DataConnection, Relay}
 use Rattle.turn_client_laws.proofs.Machine.{Progress, Pending, Origin, ServerRequest, Purpose, ForAllocation, ForRefresh, ForPermission, ForChannel, ForConnect, ForBind, Queued, find_allocation_to}
 use Rattle.turn_client_laws.proofs.Machine.{allocations, changed_allocation, family_of, family_of_ip, is_past, is_permission_of, has_active_permission, permission_state, same_transport, with_expired}
-use Rattle.turn_client_laws.proofs.Machine.{with_grant, with_more_grants, without_grants, accepted_reply, request_started, fresh_id, replied, request_for, requested, bind_time, connection_at}
+use Rattle.turn_client_laws.proofs.Machine.{with_grant, with_more_grants, without_grants, accepted_reply, request_started, fresh_id, replied, request_for, requested, waits_from, bind_time, connection_at}
 use Rattle.turn_client_laws.proofs.Machine.{is_connected, is_connecting, all_expired, allocated_tcp_socket_step, bind_channel, bind_channel_step, bound_by, channel_numbers, channel_step, channels_to}
 use Rattle.turn_client_laws.proofs.Machine.{connect_step, create_permission_step, delete_step, delete_text, deleted, free_number, in_allocation, is_allocated, is_closed, is_control, is_granted_in}
 use Rattle.turn_client_laws.proofs.Machine.{is_in_progress, is_local_taken, is_number_taken, offer_origin, offer_taken, permission_step, protocol_error_step, reserved_from, send_to_step}
@@ -88,11 +88,11 @@ module _ (R : State → State → Type 0) (k : KeepsEdits R) where
       let a = without_grants is_granted_in s in
       let b = all_expired now a in
       let purposes = map (λ (r : Relay). ForRefresh (family_of r.relayed) 0) (allocations s) in
-      let c = request_started (fresh_id s) (delete_text s) purposes now b in
+      let c = request_started (fresh_id s) (delete_text s) purposes (waits_from now s) b in
       let end = deleted now s in
       then s a end (k.removes is_granted_in s (λ r. refl))
       (then a b end (expires now a)
-      (then b c end (k.asks (fresh_id s) (delete_text s) purposes now b begun (delete-askable now s) (inl (there, delete-other s))) (k.queues end.queue c begun)))
+      (then b c end (k.asks (fresh_id s) (delete_text s) purposes (waits_from now s) b begun (delete-askable now s) (inl (there, delete-other s))) (k.queues end.queue c begun)))
 
   pub delete-walk : Expires → (now : ℕ) (s : State) → R s (delete_step now s).1
   delete-walk expires now s = either R k (is_allocated s.phase) s (Ok tt, deleted now s) _ (λ e. deleted-walk expires now s (is_allocated-true s.phase e)) (λ e. k.same s)
@@ -166,12 +166,12 @@ module _ (R : State → State → Type 0) (k : KeepsEdits R) where
 
       by : (o : Option Progress) → permission_state ip s ≡ o → R s (bind_channel number peer now s)
       by None e =
-          let c = request_started (fresh_id s) text (ForChannel number peer ∷ ForPermission ip ∷ []) now b in
+          let c = request_started (fresh_id s) text (ForChannel number peer ∷ ForPermission ip ∷ []) (waits_from now s) b in
           rw e (then s b _ (both (no-permission ip s.grants (rw e refl))) (then b c _
-          (k.asks (fresh_id s) text (ForChannel number peer ∷ ForPermission ip ∷ []) now b begun of_both (inl (there, both-other))) (k.queues (bind_channel number peer now s).queue c begun)))
+          (k.asks (fresh_id s) text (ForChannel number peer ∷ ForPermission ip ∷ []) (waits_from now s) b begun of_both (inl (there, both-other))) (k.queues (bind_channel number peer now s).queue c begun)))
       by (Some progress) e =
-          let c = request_started (fresh_id s) text (ForChannel number peer ∷ []) now a in
-          rw e (then s a _ first (then a c _ (asked-walk R k (fresh_id s) text (ForChannel number peer) now a begun (of_channel a (has-right channel s.grants (channel ∷ []) (inl refl)))
+          let c = request_started (fresh_id s) text (ForChannel number peer ∷ []) (waits_from now s) a in
+          rw e (then s a _ first (then a c _ (asked-walk R k (fresh_id s) text (ForChannel number peer) (waits_from now s) a begun (of_channel a (has-right channel s.grants (channel ∷ []) (inl refl)))
           (spelled-else (fresh_id s) text (ForChannel number peer) a there (λ f. cc))) (k.queues (bind_channel number peer now s).queue c begun)))
 
   bound_by-walk : (peer : SocketAddr) (now : ℕ) (s : State) → Room s.grants (family_of peer) → (l : List ℕ) (b : Bool) → is_allocated s.phase ≡ b → (o : Option ℕ) → free_number s ≡ o

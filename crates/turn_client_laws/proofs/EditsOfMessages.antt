@@ -4,7 +4,7 @@ use Rattle.turn_client_laws.proofs.Common.{refl, sym, subst, ap, ◌++◌, is_so
 use Rattle.turn_client_laws.proofs.Common.{or_right, same_Some, SocketAddr}
 use Rattle.turn_client_laws.proofs.Machine.{id_of, Tcp, IPV4, IPV6, Challenge, is_outstanding, same_address, State, later_by, Phase, New, Requesting, Authenticating, Allocated, Closed, Grant}
 use Rattle.turn_client_laws.proofs.Machine.{Connection, DataConnection, ServerIndication, ServerRequest, Purpose, ForAllocation, Listing, Bound, find_allocation_to, as_connection, is_connection_from}
-use Rattle.turn_client_laws.proofs.Machine.{is_for, is_listed, is_of_request, has_active_permission, purposes_of, unlisted, wait, request_started, connection_attempt_method, fresh_id, request_for}
+use Rattle.turn_client_laws.proofs.Machine.{is_for, is_listed, is_of_request, has_active_permission, purposes_of, unlisted, wait, request_started, connection_attempt_method, fresh_id, request_for, waits_from}
 use Rattle.turn_client_laws.proofs.Machine.{requested, Judgement, Unrelated, Challenged, Fatal, ConnectionAttempt, SignedRequest, SignedSuccess, SignedError, answers_one, challenge_in, challenged_or}
 use Rattle.turn_client_laws.proofs.Machine.{judgement_of, bind_judgement, is_bind_of, lifetime_in, method_in, allocate_denied, allocate_granted, allocated, closed, transaction_ended, fail_all}
 use Rattle.turn_client_laws.proofs.Machine.{family_not_supported, has_code, in_phase, phase_with, relayed_in, taken_addresses, with_offer, bind_time, first_or, is_allocate_or_connect, is_channel_bind}
@@ -136,11 +136,11 @@ module _ (HasAccepted : Type 0) (R : State → State → Type 0) (k : KeepsAccep
       let c = record b { phase = phase_after s.phase; challenges = s.challenges + 1 } in
       let text = request_for c purpose (fresh_id s) in
       let end = state_after_retry s id purpose d now in
-      let f = request_started (fresh_id s) text (purposes_of id s) now c in
+      let f = request_started (fresh_id s) text (purposes_of id s) (waits_from now s) c in
       then s a end (k.holds message d s e)
       (then a b end (k.edits.finishes id a)
       (then b c end (k.counts b refl (ltb-true s.challenges s.config.max_stale_nonces few))
-      (then c f end (k.edits.asks (fresh_id s) text (purposes_of id s) now c (begun-after s.phase begun) (λ p there. inr (inr (purposes-listed id s p there)))
+      (then c f end (k.edits.asks (fresh_id s) text (purposes_of id s) (waits_from now s) c (begun-after s.phase begun) (λ p there. inr (inr (purposes-listed id s p there)))
       (inr (inr (purposes-listed id s, (purpose, answers, refl))))) (k.edits.queues end.queue f (begun-after s.phase begun)))))
 
   challenge-walk : (message : List ℕ) (d : Challenge) (now : ℕ) (s : State) → IsBegun s.phase → challenge_in s message ≡ Some d → R s (challenge_step message d now s).1
@@ -289,15 +289,15 @@ module _ (HasAccepted : Type 0) (R : State → State → Type 0) (k : KeepsAccep
           let a = with_held d s in
           let fresh = fresh_id s in
           let text = request_for a purpose fresh in
-          let more = request_started fresh text (purpose ∷ []) now a in
+          let more = request_started fresh text (purpose ∷ []) (waits_from now s) a in
           let t = requested fresh purpose now (unlisted (is_connection_from c.local) a) in
           let alone = record more { listed = t.listed } in
           let (listed, is) = has-found (is_bind_of c.local) purpose (purposes_of (id_of message) s) f in
           let askable = inr (inr (purposes-listed (id_of message) s purpose listed)) in
           rw f
           (then s a _ (k.holds message d s e)
-          (then a more _ (asked-walk R k.edits fresh text purpose now a begun askable (spelled-else fresh text purpose a allocated (bind-other c purpose is)))
-          (then more alone _ (others-unlisted c a purpose now) (then alone t _ (k.edits.queues t.queue alone begun)
+          (then a more _ (asked-walk R k.edits fresh text purpose (waits_from now s) a begun askable (spelled-else fresh text purpose a allocated (bind-other c purpose is)))
+          (then more alone _ (others-unlisted c a purpose (waits_from now s)) (then alone t _ (k.edits.queues t.queue alone begun)
           (deadline-walk HasAccepted R k c.local (Some (later_by bind_time now)) t)))))
 
   bound-walk : IgnoresAll R → (c : DataConnection) (s : State) → R s (bound c s)

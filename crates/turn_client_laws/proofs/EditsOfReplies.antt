@@ -8,7 +8,7 @@ use Rattle.turn_client_laws.proofs.Machine.{without_grants, with_expired, connec
 use Rattle.turn_client_laws.proofs.Machine.{active_permission_answered, all_gone, allocation_mismatch, challenges_reset, channel_answered, channel_lifetime, closed, connect_answered, effect, fail_all}
 use Rattle.turn_client_laws.proofs.Machine.{has_code, is_asked_permission, lasting, lasting_if, min_lifetime, listed_permissions_answered, pending_channel_answered, pending_permission_answered}
 use Rattle.turn_client_laws.proofs.Machine.{permission_answered, permission_answered_for, permission_lifetime, prolonged, refreshed, renewed, reserved, connection_gone, request_started}
-use Rattle.turn_client_laws.proofs.Machine.{channel_bind_method, connect_method, create_permission_method, refresh_method, request_for, requested, is_answered, as_reported, first_reported}
+use Rattle.turn_client_laws.proofs.Machine.{channel_bind_method, connect_method, create_permission_method, refresh_method, request_for, requested, waits_from, is_answered, as_reported, first_reported}
 use Rattle.turn_client_laws.proofs.Machine.{unreported_in, Has, filter-has, has-filter, has-filter_map, has-left, map-has, first-has, marked, with_marks, granted_until, marked_if}
 use Rattle.turn_client_laws.specs.LawsOrder.{IsBegun, IsUngranted}
 use Rattle.turn_client_laws.proofs.Edits.{IsAskable, IsSpelled, KeepsEdits, SparesAllocations, listing, outline, AllocationsStay, KeepsAccepted, aged}
@@ -158,9 +158,9 @@ module _ (R : State → State → Type 0) (k : KeepsEdits R) where
   pub requested-walk : (id : ℕ) (purpose : Purpose) (now : ℕ) (s : State) → IsBegun s.phase → IsAskable s purpose → IsSpelled id (request_for s purpose id) (purpose ∷ []) s
       → R s (requested id purpose now s)
   requested-walk id purpose now s begun askable spelled =
-      let t = request_started id (request_for s purpose id) (purpose ∷ []) now s in
+      let t = request_started id (request_for s purpose id) (purpose ∷ []) (waits_from now s) s in
       let end = requested id purpose now s in
-      k.trans s t end (asked-walk id (request_for s purpose id) purpose now s begun askable spelled) (k.queues end.queue t begun)
+      k.trans s t end (asked-walk id (request_for s purpose id) purpose (waits_from now s) s begun askable spelled) (k.queues end.queue t begun)
 
   -- the client ends
   pub closed-walk : (s : State) → R s (closed s)

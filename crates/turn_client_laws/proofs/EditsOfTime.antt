@@ -1,7 +1,7 @@
 -- The edits that time makes, and those of what is sent.
 use Rattle.turn_client_laws.proofs.Common.{◌≡◌, ℕ, Bool, true, false, cond, eqb, leb, ltb, ◌&&◌, ◌||◌, List, [], ◌∷◌, filter, Option, Some, None, refl, inl, inr, sym, subst, ◌∙◌, drop, find, reverse}
-use Rattle.turn_client_laws.proofs.Common.{flat_map, nat_le, slice_get, list_any, and_from, and_left, and_right, eq-eqb, cond_some, none-some, SocketAddr}
-use Rattle.turn_client_laws.proofs.Machine.{AddressFamily, due, timed_out_transaction, resent, same_address, Transaction, State, agent_of, Phase, New, Requesting, Authenticating, Allocated, Grant}
+use Rattle.turn_client_laws.proofs.Common.{flat_map, nat_le, slice_get, list_any, option_map_or, and_from, and_left, and_right, eq-eqb, cond_some, none-some, SocketAddr}
+use Rattle.turn_client_laws.proofs.Machine.{AddressFamily, due, timed_out_transaction, resent, waits_begun, same_address, Transaction, State, agent_of, Phase, New, Requesting, Authenticating, Allocated, Grant}
 use Rattle.turn_client_laws.proofs.Machine.{Allocation, Permission, Channel, Relay, Progress, Active, Purpose, ForAllocation, ForRefresh, ForPermission, ForChannel, Queued, allocations, family_of}
 use Rattle.turn_client_laws.proofs.Machine.{is_connect, is_for_any, is_of, is_pending_channel, is_pending_permission, request_started, asked_lifetime, first_allocate, fresh_id, id_used, request_for}
 use Rattle.turn_client_laws.proofs.Machine.{closed, transaction_ended, reserved, has_event, has_reply, is_paused, keepalive_times, answer_step, channel_expired, connections_unbound}
@@ -185,10 +185,21 @@ module _ (R : State → State → Type 0) (k : KeepsEdits R) where
       (spelled-else (fresh_id u) text p u refl (refresh-other now u p (first-has p wanted e)))) (k.sends now t (λ new. cc))) (keepalive-walk now u refl)
   idle-walk p now s = k.same (record s { phase = p })
 
+  -- if requests wait from their first copies on
+  begun-walk : (now : ℕ) (q : Queued) (s : State) → R s (record s { transactions = T.begun_by now q s })
+  begun-walk now q s = by (s.config.timed_from_send && q.is_request) (T.id_in_header q.packet.payload)
+    where
+      by : (b : Bool) (o : Option ℕ) → R s (record s { transactions = cond b (option_map_or (λ id. waits_begun id now s.transactions) o s.transactions) s.transactions })
+      by true (Some id) = k.starts id now s
+      by true None = k.same s
+      by false o = k.same s
+
   queue-walk : (now : ℕ) (s : State) → R s (queue_step now s).1
   queue-walk now s = found R k _ (slice_get s.queue 0) s (idle_step s.phase now s)
       (λ q e. let t = sent now s in
-      then s t (record t { queue = drop 1 s.queue }) (k.sends now s (λ new none. absurd (rw none at (first-has q s.queue e)))) (k.dequeues (drop 1 s.queue) t (has-dropped s.queue)))
+      let u = record t { queue = drop 1 s.queue } in
+      then s t (record u { transactions = T.begun_by now q u }) (k.sends now s (λ new none. absurd (rw none at (first-has q s.queue e))))
+      (then t u _ (k.dequeues (drop 1 s.queue) t (has-dropped s.queue)) (begun-walk now q u)))
       (idle-walk s.phase now s)
 
   pub transmit-walk : (now : ℕ) (s : State) → R s (transmit_step now s).1

@@ -31,7 +31,7 @@ pub use Rattle.turn_auth.specs.declared.validation.Validation.{Validation}
 pub use Rattle.turn_auth.specs.declared.validation.Validation.TheVariants.{Refused, ResendRequest, Validated}
 pub use Rattle.turn_auth.proofs.ChallengeLemmas.{challenge_of-MayTake, challenge_of-sound}
 pub use Rattle.turn_agent.specs.Agent.{due, first_sent, is_due, is_outstanding, is_response, is_timed_out, resent, same_address, sent_again, timed_out_transaction, transaction_timeout}
-pub use Rattle.turn_agent.specs.Agent.{without_transaction}
+pub use Rattle.turn_agent.specs.Agent.{waiting_from, waits_begun, without_transaction}
 pub use Rattle.turn_agent.specs.Schedule.{Timers, doubled_wait, resends_of, udp_resends, wait_at}
 unfoldable pub use Rattle.turn_agent.specs.Schedule.{doubled_sum, schedule}
 pub use Rattle.turn_agent.specs.TransactionIds.{Source, behind_id, next_id}
@@ -79,7 +79,7 @@ pub use Rattle.turn_client_api.specs.Requests.{accepted_reply, allocate_method, 
 pub use Rattle.turn_client_api.specs.Requests.{connect_method, connection_already_exists, connection_attempt_method, connection_bind_method, connection_timed_out, counted_up, create_permission_method}
 pub use Rattle.turn_client_api.specs.Requests.{data_method, dont_fragment_kind, error_kind, family_attributes, first_allocate, fresh_id, icmp_kind, id_used, is_taken, lifetime_attribute, listings}
 pub use Rattle.turn_client_api.specs.Requests.{max_ids_taken, message_of, method_for, queued, refresh_method, refused_reply, replied, request_for, request_started, requested, sent_from, signed}
-pub use Rattle.turn_client_api.specs.Requests.{to_server, transport_attribute}
+pub use Rattle.turn_client_api.specs.Requests.{to_server, transport_attribute, waits_from}
 pub use Rattle.turn_client_api.specs.Retry.{bind_time, first_or, is_allocate_or_connect, is_channel_bind, is_create_permission, is_refresh, phase_after, retried, state_after_retry, with_held}
 pub use Rattle.turn_client_api.specs.State.{State, agent_of, auth_of, first_streams, initial, later_by, max_time, seconds}
 pub use Rattle.turn_client_api.specs.Steps.{EndsWithoutMemory, Leaves, packet_step, state_after, state_after_all}
@@ -88,6 +88,7 @@ pub use Rattle.turn_client_api.specs.Streams.{max_steps, next_frame_step, owned,
 pub use Rattle.turn_client_api.specs.Streams.{without_stream}
 unfoldable pub use Rattle.turn_client_api.specs.Streams.{steps_until_payload}
 pub use Rattle.turn_client_api.specs.Transmit.{idle_step, is_due_in, is_ranked, keepalive_step, next_refresh, next_transmit, queue_step, refresh_purpose, refresh_step, refreshes_in, refreshes_of_rank}
+pub use Rattle.turn_client_api.specs.Transmit.{begun_by, front_sent, id_in_header}
 pub use Rattle.turn_client_api.specs.Transmit.{reply_in, reply_step, sent, sent_at_once, transmit_step, without_first_reply}
 unfoldable pub use Rattle.turn_client_api.specs.Transmit.{is_refresh_due}
 pub use Rattle.turn_client_api.specs.declared.call.Call.{Call}

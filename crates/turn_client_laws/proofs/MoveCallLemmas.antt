@@ -3,7 +3,7 @@ use Rattle.turn_client_laws.proofs.Common.{◌≡◌, ◌⊎◌, ℕ, Bool, true
 use Rattle.turn_client_laws.proofs.Common.{is_none, list_any, socket_ip, IpAddr, SocketAddr}
 use Rattle.turn_client_laws.proofs.Machine.{TransportType, Tcp, AddressFamily, first_sent, Transaction, State, Grant, Permission, Connect, Relay, Listing, Pending, Purpose, ForPermission, ForChannel}
 use Rattle.turn_client_laws.proofs.Machine.{ForConnect, find_allocation_to, changed_allocation, family_of_ip, is_of_family, is_past, has_active_permission, permission_state, with_expired, with_grant}
-use Rattle.turn_client_laws.proofs.Machine.{fresh_id, listings, request_for, requested, is_connected, is_connecting, bind_channel, bind_channel_step, bound_by, channel_step, channels_to, connect_step}
+use Rattle.turn_client_laws.proofs.Machine.{fresh_id, listings, request_for, requested, waits_from, is_connected, is_connecting, bind_channel, bind_channel_step, bound_by, channel_step, channels_to, connect_step}
 use Rattle.turn_client_laws.proofs.Machine.{create_permission_step, free_number, in_allocation, is_allocated, is_in_progress, missing_permission, permission_step, reserved_from, tcp_connect_step}
 use Rattle.turn_client_laws.proofs.Machine.{Call, CreatePermission, BindChannel, TcpConnect, Has, keep_step, marked_if, with_marks, same_transport}
 use Rattle.turn_client_api.specs.declared.error.BindChannelError.TheVariants as Bind
@@ -31,12 +31,12 @@ pub does-same : (call : Call) (s : State) → Does call s s
 does-same call s = does-settled call s s (settles-same (IsTakenBy call s) s)
 
 -- one request is made, in a state that differs from the first by what the call removes
-pub does-requested : (call : Call) (purpose : Purpose) (now : ℕ) (s u : State) → AsksFor call s purpose now → Settles (IsTakenBy call s) s u → Does call s (requested (fresh_id s) purpose now u)
+pub does-requested : (call : Call) (purpose : Purpose) (now : ℕ) (s u : State) → AsksFor call s purpose (waits_from now u) → Settles (IsTakenBy call s) s u → Does call s (requested (fresh_id s) purpose now u)
 does-requested call purpose now s u asks (made, listed, lost) = (
   adds-one (MadeAt call s t) s.transactions u.transactions (request_made purpose now s u) (adds-never (MadeAt call s t) s.transactions u.transactions made)
-      (inr (purpose, now, asks, (requested-made purpose now s u, refl))),
+      (inr (purpose, waits_from now u, asks, (requested-made purpose now s u, refl))),
   adds-one (ListedAt call s t) s.listed u.listed _ (adds-never (ListedAt call s t) s.listed u.listed listed)
-      (purpose, now, asks, inl refl, (requested-made purpose now s u, refl)),
+      (purpose, waits_from now u, asks, inl refl, (requested-made purpose now s u, refl)),
   lost,
 )
   where
@@ -112,7 +112,7 @@ module _ (transport : TransportType) (peer : SocketAddr) (now : ℕ) (s : State)
 
   bound-does : (number : ℕ) → free_number s ≡ Some number → Does binding s (bind_channel number peer now s)
   bound-does number free = (
-    adds-one (MadeAt binding s t) s.transactions s.transactions x (adds-same _ s.transactions) (inr (purpose, now, asks, (made, refl))),
+    adds-one (MadeAt binding s t) s.transactions s.transactions x (adds-same _ s.transactions) (inr (purpose, waits_from now s, asks, (made, refl))),
     adds-more (ListedAt binding s t) s.listed s.listed _ (adds-same _ s.listed) listed,
     loses-more _ s.grants s.grants _ (loses-same _ s.grants),
   )
@@ -123,19 +123,19 @@ module _ (transport : TransportType) (peer : SocketAddr) (now : ℕ) (s : State)
       purpose : Purpose
       purpose = ForChannel number peer
 
-      asks : AsksFor binding s purpose now
+      asks : AsksFor binding s purpose (waits_from now s)
       asks = (refl, (number, free, refl))
 
       x : Transaction
-      x = first_sent (fresh_id s) s.remote now (request_for s purpose (fresh_id s))
+      x = first_sent (fresh_id s) s.remote (waits_from now s) (request_for s purpose (fresh_id s))
 
-      made : IsMade purpose now s t
-      made = made-of purpose now s t (request_for s purpose (fresh_id s)) (inl refl) s.transactions refl
+      made : IsMade purpose (waits_from now s) s t
+      made = made-of purpose (waits_from now s) s t (request_for s purpose (fresh_id s)) (inl refl) s.transactions refl
 
       listed : (l : Listing) → Has l (listings (fresh_id s) (purpose ∷ map ForPermission (missing_permission peer s))) → ListedAt binding s t l
       listed =
           each-listing (ListedAt binding s t) (fresh_id s) (purpose ∷ map ForPermission (missing_permission peer s))
-          (λ p h. (purpose, now, asks, listed-with number (missing_permission peer s) (is_none (permission_state (socket_ip peer) s)) refl p h, (made, refl)))
+          (λ p h. (purpose, waits_from now s, asks, listed-with number (missing_permission peer s) (is_none (permission_state (socket_ip peer) s)) refl p h, (made, refl)))
 
   bound_by-does : (l : List ℕ) (b : Bool) (o : Option ℕ) → free_number s ≡ o → Does binding s (bound_by peer now s l b o).1
   bound_by-does [] true (Some number) e = bound-does number e

@@ -3,7 +3,7 @@ use Rattle.turn_client_laws.proofs.Common.{◌≡◌, ◌⊎◌, ℕ, eqb, ltb, 
 use Rattle.turn_client_laws.proofs.Common.{find, is_some, IfSome, list_any, option_map_or, and_parts, socket_ip, SocketAddr}
 use Rattle.turn_client_laws.proofs.Machine.{IPV4, IPV6, AllocationCreateFailed, id_of, Tcp, Challenge, first_sent, is_response, Transaction, State, later_by, Grant, DataConnection, Listing, Purpose}
 use Rattle.turn_client_laws.proofs.Machine.{ForAllocation, Phase, Requesting, Authenticating, find_allocation_to, is_connection_from, is_for, is_for_allocation, purposes_of, unlisted, wait}
-use Rattle.turn_client_laws.proofs.Machine.{connection_attempt_method, fresh_id, listings, request_for, requested, Judgement, Unrelated, Challenged, Fatal, ConnectionAttempt, SignedRequest}
+use Rattle.turn_client_laws.proofs.Machine.{connection_attempt_method, fresh_id, listings, request_for, requested, waits_from, Judgement, Unrelated, Challenged, Fatal, ConnectionAttempt, SignedRequest}
 use Rattle.turn_client_laws.proofs.Machine.{SignedSuccess, SignedError, answers_allocate, authenticating_judgement, bind_judgement, class_in, connection_id_in, is_bind_of, judgement_of, lifetime_in}
 use Rattle.turn_client_laws.proofs.Machine.{method_in, peer_in, allocate_denied, allocate_granted, transaction_ended, family_not_supported, has_code, in_phase, bind_time, retried, state_after_retry}
 use Rattle.turn_client_laws.proofs.Machine.{with_held, attempt_indicated, attempt_requested, bind_again, bind_answered, bind_step, deadline_set, is_connected, accepts_attempt, bound, not_bound}
@@ -41,8 +41,8 @@ each-listing P id all each l there =
     subst P (sym e) (each p h)
 
 -- the request is made for one purpose, and listed for some
-module _ (message : List ℕ) (now : ℕ) (s t : State) (purpose : Purpose) (answers : Has purpose (purposes_of (id_of message) s)) (made : IsMade purpose now s t) where
-  made-again : IsMadeAgain message now s t (first_sent (fresh_id s) t.remote now made.text)
+module _ (message : List ℕ) (now : ℕ) (s t : State) (purpose : Purpose) (answers : Has purpose (purposes_of (id_of message) s)) (made : IsMade purpose (waits_from now s) s t) where
+  made-again : IsMadeAgain message now s t (first_sent (fresh_id s) t.remote (waits_from now s) made.text)
   made-again = (purpose, has-contains purpose (purposes_of (id_of message) s) answers, (made, refl))
 
   listed-again : (some : List Purpose) → ((p : Purpose) → Has p some → Has p (purposes_of (id_of message) s)) → (l : Listing) → Has l (listings (fresh_id s) some) → IsListedAgain message now s t l
@@ -55,7 +55,7 @@ module _ (message : List ℕ) (now : ℕ) (s t : State) (purpose : Purpose) (ans
 
 -- the transaction of a request for the purpose
 abbrev pub request_made : Purpose → ℕ → State → State → Transaction
-request_made purpose now s u = first_sent (fresh_id s) u.remote now (request_for u purpose (fresh_id s))
+request_made purpose now s u = first_sent (fresh_id s) u.remote (waits_from now u) (request_for u purpose (fresh_id s))
 
 -- these bytes request it, if they are outstanding after the others
 abbrev pub made-of : (purpose : Purpose) (now : ℕ) (s t : State) (text : List ℕ) → Spells purpose (fresh_id s) text t → (ts : List Transaction)
@@ -67,9 +67,9 @@ made-of purpose now s t text spelled ts e = record {
 }
 
 -- whatever the state was in which it is requested
-abbrev pub requested-made : (purpose : Purpose) (now : ℕ) (s u : State) → IsMade purpose now s (requested (fresh_id s) purpose now u)
+abbrev pub requested-made : (purpose : Purpose) (now : ℕ) (s u : State) → IsMade purpose (waits_from now u) s (requested (fresh_id s) purpose now u)
 requested-made purpose now s u =
-    made-of purpose now s (requested (fresh_id s) purpose now u) (request_for u purpose (fresh_id s)) (inl refl) u.transactions refl
+    made-of purpose (waits_from now u) s (requested (fresh_id s) purpose now u) (request_for u purpose (fresh_id s)) (inl refl) u.transactions refl
 
 -- ---- over the control connection
 
@@ -84,8 +84,8 @@ retry-moves Taken message purpose d now s answers = (
     t : State
     t = state_after_retry s (id_of message) purpose d now
 
-    made : IsMade purpose now s t
-    made = made-of purpose now s t (request_for t purpose (fresh_id s)) (inl refl) (A.without_transaction (id_of message) s.transactions) refl
+    made : IsMade purpose (waits_from now s) s t
+    made = made-of purpose (waits_from now s) s t (request_for t purpose (fresh_id s)) (inl refl) (A.without_transaction (id_of message) s.transactions) refl
 
 challenge-moves : (Taken : Grant → Type 0) (message : List ℕ) (d : Challenge) (now : ℕ) (s : State) → MovesByMessage Taken message now s (challenge_step message d now s).1
 challenge-moves Taken message d now s = by (ltb s.challenges s.config.max_stale_nonces) refl (retried (purposes_of (id_of message) s)) refl
@@ -123,7 +123,7 @@ denied-moves Taken message now s answers = by (has_code family_not_supported mes
     u : State
     u = wait (AllocationCreateFailed IPV4 ∷ []) (record (in_phase s.phase (transaction_ended (id_of message) s)) { families = IPV6 ∷ [] })
 
-    made : IsMade ForAllocation now s (requested (fresh_id s) ForAllocation now u)
+    made : IsMade ForAllocation (waits_from now s) s (requested (fresh_id s) ForAllocation now u)
     made = requested-made ForAllocation now s u
 
     one : (p : Purpose) → Has p (ForAllocation ∷ []) → Has p (purposes_of (id_of message) s)
@@ -250,7 +250,7 @@ again-moves c message d now s = by (find (is_bind_of c.local) (purposes_of (id_o
     by (Some purpose) e =
         let answers = found-has (is_bind_of c.local) (purposes_of (id_of message) s) purpose e in
         let t = with_deadline c.local (Some (later_by bind_time now)) (requested (fresh_id s) purpose now u) in
-        let made : IsMade purpose now s t = record { text = request_for u purpose (fresh_id s); spelled = inl refl; outstanding = (requested-made purpose now s u).outstanding } in
+        let made : IsMade purpose (waits_from now s) s t = record { text = request_for u purpose (fresh_id s); spelled = inl refl; outstanding = (requested-made purpose now s u).outstanding } in
         rw e (
           adds-one _ s.transactions s.transactions (request_made purpose now s u) (adds-same _ s.transactions) (made-again message now s t purpose answers made),
           adds-more _ s.listed u.listed (listings (fresh_id s) (purpose ∷ [])) (adds-filter _ _ s.listed) (listed-again message now s t purpose answers made (purpose ∷ []) (only purpose answers)),

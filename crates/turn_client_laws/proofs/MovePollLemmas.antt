@@ -1,12 +1,12 @@
 -- What time removes, and what is requested as it passes.
 use Rattle.turn_client_laws.proofs.Common.{◌≡◌, ◌⊎◌, ℕ, ◌<◌, ◌≤◌, eqb, leb, Bool, true, false, cond, ◌&&◌, ◌||◌, List, [], ◌∷◌, fold, Option, Some, None, refl, sym, subst, inl, inr, arith, All}
-use Rattle.turn_client_laws.proofs.Common.{IsSome, drop, find, flat_map, is_some, nat_le, reverse, slice_get, Contains, list_any, leb-false, leb-true, SocketAddr}
+use Rattle.turn_client_laws.proofs.Common.{IsSome, drop, find, flat_map, is_some, nat_le, reverse, slice_get, Contains, list_any, leb-false, leb-true, SocketAddr, option_map_or}
 use Rattle.turn_client_laws.proofs.Machine.{AddressFamily, due, first_sent, timed_out_transaction, resent, sent_again, Transaction, State, agent_of, DataOffer, Grant, Channel, Relay, Active, Purpose}
 use Rattle.turn_client_laws.proofs.Machine.{ForAllocation, Phase, New, Requesting, Authenticating, Allocated, allocations, family_of, is_of, first_allocate, fresh_id, id_used, request_for, to_server}
 use Rattle.turn_client_laws.proofs.Machine.{closed, transaction_ended, has_event, has_reply, is_paused, keepalive_times, expiry_times, answer_by, answer_step, channel_expired, timed_out_purposes}
 use Rattle.turn_client_laws.proofs.Machine.{timed_out_step, is_expired_channel, is_listed_for_allocation, expired_at, expired_allocation, expired_in, next_offer, offer_step, poll_step, timed_step}
 use Rattle.turn_client_laws.proofs.Machine.{as_reported, first_reported, unreported_in, idle_step, keepalive_step, queue_step, refreshes_in, reply_step, sent, sent_at_once, transmit_step, Call, Poll}
-use Rattle.turn_client_laws.proofs.Machine.{PollTransmit, Has, all-has, has-found, expired_in-does}
+use Rattle.turn_client_laws.proofs.Machine.{Queued, front_sent, id_in_header, waiting_from, waits_begun, PollTransmit, Has, all-has, has-found, expired_in-does}
 use Rattle.turn_client_laws.specs.LawsRequests.{AsksFor, IsMade}
 use Rattle.turn_client_laws.specs.LawsGone.{IsTakenBy, IsTimeUp, grant_identity}
 use Rattle.turn_client_api.proofs.EarlyExpiryLemmas.{expired_at-none}
@@ -170,8 +170,41 @@ module _ (now : ℕ) (s : State) where
           by (z, there, e) = at (eqb z.id x.id) e
             where
               at : (b : Bool) → y ≡ cond b (sent_again now z) z → Has y s.transactions ⊎ MadeAt sending s t y
-              at true f = inr (inl (z, has-contains z s.transactions there, f))
+              at true f = inr (inl (z, has-contains z s.transactions there, inl f))
               at false f = inl (rw f there)
+
+  -- the first copy of a queued request is given out
+  begun-does : (id : ℕ) (queue : List Queued) → s.config.timed_from_send ≡ true → Does sending s (sent now (record s { queue = queue; transactions = waits_begun id now s.transactions }))
+  begun-does id queue timed = (begun, adds-same _ s.listed, loses-same (IsTakenBy sending s) s.grants)
+    where
+      t : State
+      t = sent now (record s { queue = queue; transactions = waits_begun id now s.transactions })
+
+      begun : Adds (MadeAt sending s t) s.transactions t.transactions
+      begun y h = by (has-mapped (λ (z : Transaction). cond (eqb z.id id) (waiting_from now z) z) y s.transactions h)
+        where
+          by : (z : Transaction) × Has z s.transactions × (y ≡ cond (eqb z.id id) (waiting_from now z) z) → Has y s.transactions ⊎ MadeAt sending s t y
+          by (z, there, e) = at (eqb z.id id) e
+            where
+              at : (b : Bool) → y ≡ cond b (waiting_from now z) z → Has y s.transactions ⊎ MadeAt sending s t y
+              at true f = inr (inl (z, has-contains z s.transactions there, inr (timed, f)))
+              at false f = inl (rw f there)
+
+  front-does : (q : Queued) → Does sending s (front_sent now q s)
+  front-does q = by s.config.timed_from_send refl q.is_request (id_in_header q.packet.payload)
+    where
+      queue : List Queued
+      queue = drop 1 s.queue
+
+      none : Does sending s (sent now (record s { queue = queue }))
+      none = does-settled sending s _ (settles-same (IsTakenBy sending s) s)
+
+      by : (timed : Bool) → s.config.timed_from_send ≡ timed → (b : Bool) (o : Option ℕ) → Does sending s
+          (sent now (record s { queue = queue; transactions = cond (timed && b) (option_map_or (λ id. waits_begun id now s.transactions) o s.transactions) s.transactions }))
+      by true is true (Some id) = begun-does id queue is
+      by true is true None = none
+      by true is false o = none
+      by false is b o = none
 
   -- a request is sent at once
   at_once-does : (text : List ℕ) (purpose : Purpose) (u : State) → AsksFor sending s purpose now → Settles (IsTakenBy sending s) s u
@@ -224,8 +257,8 @@ transmit-does now s =
     by_found Claim (λ t. (Some (record (to_server s s.local t.request) { to = t.to }), sent now (record s { transactions = resent t.id now s.transactions })))
     (due (agent_of s) now) (cond (is_paused now s) (reply_step s) (queue_step now s)) (λ x e. resent-does now s x)
     (by_test Claim (is_paused now s) (reply_step s) (queue_step now s) (does-settled (PollTransmit now) s (reply_step s).1 same)
-    (by_found Claim (λ q. (Some q.packet, sent now (record s { queue = drop 1 s.queue })))
-    (slice_get s.queue 0) (idle_step s.phase now s) (λ q e. does-settled (PollTransmit now) s (sent now (record s { queue = drop 1 s.queue })) same) (idle-does s.phase now s)))
+    (by_found Claim (λ q. (Some q.packet, front_sent now q s))
+    (slice_get s.queue 0) (idle_step s.phase now s) (λ q e. front-does now s q) (idle-does s.phase now s)))
   where
     Claim : State → Type 0
     Claim t = Does (PollTransmit now) s t

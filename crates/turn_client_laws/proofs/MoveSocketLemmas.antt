@@ -3,7 +3,7 @@ use Rattle.turn_client_laws.proofs.Common.{◌≡◌, ◌⊎◌, ℕ, Bool, true
 use Rattle.turn_client_laws.proofs.Common.{SocketAddr}
 use Rattle.turn_client_laws.proofs.Machine.{TransportType, Tcp, AddressFamily, IPV4, first_sent, same_address, Transaction, State, later_by, Grant, Connection, Listing, Origin, OwnConnect}
 use Rattle.turn_client_laws.proofs.Machine.{ServerRequest, Purpose, ForRefresh, ForBind, Relay, allocations, changed_allocation, family_of, is_connection_from, same_transport, with_grant}
-use Rattle.turn_client_laws.proofs.Machine.{accepted_reply, fresh_id, listings, request_for, requested, bind_time, connection_at, connection_gone, tcp_closed_step, without_stream}
+use Rattle.turn_client_laws.proofs.Machine.{accepted_reply, fresh_id, listings, request_for, requested, waits_from, bind_time, connection_at, connection_gone, tcp_closed_step, without_stream}
 use Rattle.turn_client_laws.proofs.Machine.{allocated_tcp_socket_step, answered_with, delete_step, delete_text, deleted, is_allocated, is_closed, is_control, is_granted_in, is_local_taken}
 use Rattle.turn_client_laws.proofs.Machine.{is_offer_of, offer_origin, offer_taken, protocol_error_step, send_to_step, socket_opened, socket_refused, socket_step, with_stream, without_first}
 use Rattle.turn_client_laws.proofs.Machine.{Socket5Tuple, Call, Delete, AllocatedTcpSocket, TcpClosed, SendTo, ProtocolError, Has, map-has}
@@ -78,22 +78,22 @@ module _ (id : ℕ) (tuple : Socket5Tuple) (peer : SocketAddr) (now : ℕ) (s : 
       lost = loses-more (IsTakenBy call s) s.grants (offer_taken id peer s).grants (c ∷ []) (taken-loses (Some local))
 
       -- in whatever state it is requested
-      asked : (u : State) → Settles (IsTakenBy call s) s u → Does call s (with_stream local (requested (fresh_id s) purpose now u))
-      asked u (made, listed, lost) =
+      asked : (u : State) → waits_from now u ≡ waits_from now s → Settles (IsTakenBy call s) s u → Does call s (with_stream local (requested (fresh_id s) purpose now u))
+      asked u same (made, listed, lost) =
           let t = with_stream local (requested (fresh_id s) purpose now u) in
-          let is : IsMade purpose now s t = made-of purpose now s t (request_for u purpose (fresh_id s)) (inl refl) u.transactions refl in (
+          let is : IsMade purpose (waits_from now u) s t = made-of purpose (waits_from now u) s t (request_for u purpose (fresh_id s)) (inl refl) u.transactions refl in (
             adds-one (MadeAt call s t) s.transactions u.transactions (request_made purpose now s u) (adds-never _ s.transactions u.transactions made)
-                (inr (purpose, now, (refl, refl), (is, refl))),
+                (inr (purpose, waits_from now u, (same, refl), (is, refl))),
             adds-one (ListedAt call s t) s.listed u.listed (record { id = fresh_id s; purpose = purpose }) (adds-never _ s.listed u.listed listed)
-                (purpose, now, (refl, refl), inl refl, (is, refl)),
+                (purpose, waits_from now u, (same, refl), inl refl, (is, refl)),
             lost,
           )
 
       by : (origin : Origin) → Does call s (socket_opened id peer local origin now s)
       by (ServerRequest request) =
-          asked (with_grant c (answered_with (accepted_reply (offer_taken id peer s)) (ServerRequest request) (offer_taken id peer s)))
+          asked (with_grant c (answered_with (accepted_reply (offer_taken id peer s)) (ServerRequest request) (offer_taken id peer s))) refl
           (adds-same Never s.transactions, adds-same Never s.listed, lost)
-      by origin = asked (with_grant c (offer_taken id peer s)) (adds-same Never s.transactions, adds-same Never s.listed, lost)
+      by origin = asked (with_grant c (offer_taken id peer s)) refl (adds-same Never s.transactions, adds-same Never s.listed, lost)
 
   socket-does : (local : Option SocketAddr) (origin : Origin) → Does (taking local) s (socket_step id peer local origin now s).1
   socket-does None origin = refused-does origin
@@ -130,7 +130,7 @@ module _ (now : ℕ) (s : State) where
   deleted-does : Does (Delete now) s (deleted now s)
   unfolding left
   deleted-does = (
-    adds-one (MadeAt (Delete now) s t) s.transactions s.transactions x (adds-same _ s.transactions) (inr (ForRefresh IPV4 0, now, (refl, (IPV4, refl)), (made IPV4, refl))),
+    adds-one (MadeAt (Delete now) s t) s.transactions s.transactions x (adds-same _ s.transactions) (inr (ForRefresh IPV4 0, waits_from now s, (refl, (IPV4, refl)), (made IPV4, refl))),
     adds-more (ListedAt (Delete now) s t) s.listed _ _ (adds-filter _ _ s.listed) listed,
     expired-loses,
   )
@@ -139,10 +139,10 @@ module _ (now : ℕ) (s : State) where
       t = deleted now s
 
       x : Transaction
-      x = first_sent (fresh_id s) s.remote now (delete_text s)
+      x = first_sent (fresh_id s) s.remote (waits_from now s) (delete_text s)
 
-      made : (family : AddressFamily) → IsMade (ForRefresh family 0) now s t
-      made family = made-of (ForRefresh family 0) now s t (delete_text s) (inl refl) s.transactions refl
+      made : (family : AddressFamily) → IsMade (ForRefresh family 0) (waits_from now s) s t
+      made family = made-of (ForRefresh family 0) (waits_from now s) s t (delete_text s) (inl refl) s.transactions refl
 
       refresh_of : Relay → Purpose
       refresh_of a = ForRefresh (family_of a.relayed) 0
@@ -150,7 +150,7 @@ module _ (now : ℕ) (s : State) where
       listed : (l : Listing) → Has l (listings (fresh_id s) (map refresh_of (allocations s))) → ListedAt (Delete now) s t l
       listed = each-listing (ListedAt (Delete now) s t) (fresh_id s) (map refresh_of (allocations s)) (λ p h.
           let (a, there, e) = has-mapped refresh_of p (allocations s) h in
-          (p, now, (refl, (family_of a.relayed, e)), inl refl, (rw e (made (family_of a.relayed)), refl)))
+          (p, waits_from now s, (refl, (family_of a.relayed, e)), inl refl, (rw e (made (family_of a.relayed)), refl)))
 
   pub delete-does : Does (Delete now) s (delete_step now s).1
   delete-does = by_test (Does (Delete now) s) (is_allocated s.phase) _ _ deleted-does (does-same (Delete now) s)

@@ -16,7 +16,8 @@ use Rattle.turn_client_laws.proofs.InputLemmas.{IsBringing, message-brings}
 request-IsOneOf : (call : Call) (s : State) → (TakesInput call → ⊥) → (x : Transaction) → IsRequestOf call s x → IsOneOf x.id s.transactions s
 request-IsOneOf (Recv packet now) s other x is = absurd (other tt)
 request-IsOneOf (PollRecv now) s other x is = absurd (other tt)
-request-IsOneOf (PollTransmit now) s other x (inl (was, there, e)) = rw e (has-IsOneOf was s.transactions s (contains-has was s.transactions there))
+request-IsOneOf (PollTransmit now) s other x (inl (was, there, inl e)) = rw e (has-IsOneOf was s.transactions s (contains-has was s.transactions there))
+request-IsOneOf (PollTransmit now) s other x (inl (was, there, inr (timed, e))) = rw e (has-IsOneOf was s.transactions s (contains-has was s.transactions there))
 request-IsOneOf call s other x (inl none) = absurd none
 request-IsOneOf call s other x (inr (purpose, at, asks, (made, e))) = inr (rw e refl)
 

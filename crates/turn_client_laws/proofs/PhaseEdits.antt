@@ -2,7 +2,7 @@
 use Rattle.turn_client_laws.proofs.Common.{◌≡◌, ◌+◌, ◌<◌, ◌++◌, ℕ, List, map, filter, true, Some, IsSome, SocketAddr}
 use Rattle.turn_client_laws.proofs.Machine.{Challenge, State, New, Requesting, Authenticating, Closed, Permission, Channel, Connect, Connection, Pending, Active, Reserved, OwnConnect, is_channel_of}
 use Rattle.turn_client_laws.proofs.Machine.{is_connect_to, is_of, is_permission_of, with_grant, without_grants, request_started, challenge_in, challenges_reset, transaction_ended, new_allocation}
-use Rattle.turn_client_laws.proofs.Machine.{phase_with, relayed_in, taken_addresses, with_offer, phase_after, with_held, offer_taken, sent, resent}
+use Rattle.turn_client_laws.proofs.Machine.{phase_with, relayed_in, taken_addresses, with_offer, phase_after, with_held, offer_taken, sent, resent, waits_begun}
 use Rattle.turn_client_laws.proofs.Edits.{KeepsEdits, KeepsAccepted}
 
 -- a state with grants, requests and queues as in another one
@@ -48,6 +48,7 @@ phase-edits R k = record {
     ends = λ s none. k.ends s;
     finishes = λ id s. k.rest s (transaction_ended id s);
     resends = λ id now s. k.rest s (record s { transactions = resent id now s.transactions });
+    starts = λ id now s. k.rest s (record s { transactions = waits_begun id now s.transactions });
   };
   asks = λ id text purposes now s begun askable spelled. k.rest s (request_started id text purposes now s);
   unlists = λ which s. k.rest s (record s { listed = filter which s.listed });

@@ -1,7 +1,7 @@
 -- What holds for every client: nothing is sent before the first packet, and nothing is granted before the
 -- server allocates.
 use Rattle.turn_client_laws.proofs.Common.{◌≡◌, ◌∙◌, ℕ, ◌+◌, ◌≤◌, true, not, List, [], ◌∷◌, ◌++◌, map, filter, inl, refl, ap, arith, IsSome, none-some, SocketAddr}
-use Rattle.turn_client_laws.proofs.Machine.{TransportType, resent, Config, State, initial, Phase, New, Allocated, Closed, Pending, Queued, is_of, new_allocation, phase_with, relayed_in}
+use Rattle.turn_client_laws.proofs.Machine.{TransportType, resent, waits_begun, Config, State, initial, Phase, New, Allocated, Closed, Pending, Queued, is_of, new_allocation, phase_with, relayed_in}
 use Rattle.turn_client_laws.proofs.Machine.{taken_addresses, phase_after, is_offer_of, without_first, has_queued_request, FitsPhaseForPoll, Leaves, Call, Has}
 use Rattle.turn_agent.specs.Agent as A
 use Rattle.turn_client_laws.specs.LawsSteps.{GoesOn, rank}
@@ -64,6 +64,7 @@ Steadies-KeepsEdits = record {
     ends = λ s none. (λ h. (λ e. cc, λ b. absurd b, h.2, λ u. absurd u), Keeps-KeepsEdits.ends s none);
     finishes = λ id s. (λ h. (λ new. ((h.0 new).0, (h.0 new).1, ap (A.without_transaction id) (h.0 new).2), h.1, h.2, h.3), keeps-same s);
     resends = λ id now s. (λ h. (λ new. ((h.0 new).0, (h.0 new).1, ap (resent id now) (h.0 new).2), h.1, h.2, h.3), keeps-same s);
+    starts = λ id now s. (λ h. (λ new. ((h.0 new).0, (h.0 new).1, ap (waits_begun id now) (h.0 new).2), h.1, h.2, h.3), keeps-same s);
   };
   asks = λ id text purposes now s begun askable spelled. (λ h. (λ new. absurd (rw new at begun), h.1, h.2, h.3), keeps-same s);
   unlists = λ which s. (λ h. h, keeps-same s);

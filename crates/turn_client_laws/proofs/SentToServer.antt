@@ -1,6 +1,6 @@
 -- Requests are sent to the server.
 use Rattle.turn_client_laws.proofs.Common.{◌≡◌, ℕ, Bool, true, false, not, cond, eqb, List, [], ◌∷◌, ◌++◌, ◌⊎◌, inl, inr, refl, ap, ◌∙◌, SocketAddr}
-use Rattle.turn_client_laws.proofs.Machine.{TransportType, first_sent, resent, sent_again, Transaction, Config, State, initial, Leaves, Call, Has, all-has, has-all, has-append, has-filter}
+use Rattle.turn_client_laws.proofs.Machine.{TransportType, first_sent, resent, sent_again, waiting_from, waits_begun, Transaction, Config, State, initial, Leaves, Call, Has, all-has, has-all, has-append, has-filter}
 use Rattle.turn_client_laws.specs.LawsStates.{AsksServer, IsToServer}
 use Rattle.turn_client_laws.proofs.GrantOriginLemmas.{has-mapped}
 use Rattle.turn_client_laws.proofs.Edits.{KeepsAllEdits, KeepsEdits}
@@ -30,6 +30,19 @@ to-resent server id now ts old t there = of (has-mapped again t ts there)
     of : (x : Transaction) × Has x ts × (t ≡ again x) → t.to ≡ server
     of (x, here, e) = ap (λ (y : Transaction). y.to) e ∙ (same (eqb x.id id) x ∙ old x here)
 
+to-begun : (server : SocketAddr) (id now : ℕ) (ts : List Transaction) → AllTo server ts → AllTo server (waits_begun id now ts)
+to-begun server id now ts old t there = of (has-mapped begun t ts there)
+  where
+    begun : Transaction → Transaction
+    begun x = cond (eqb x.id id) (waiting_from now x) x
+
+    same : (b : Bool) (x : Transaction) → (cond b (waiting_from now x) x).to ≡ x.to
+    same true x = refl
+    same false x = refl
+
+    of : (x : Transaction) × Has x ts × (t ≡ begun x) → t.to ≡ server
+    of (x, here, e) = ap (λ (y : Transaction). y.to) e ∙ (same (eqb x.id id) x ∙ old x here)
+
 abbrev StayTo : State → State → Type 0
 StayTo s t = AllTo s.remote s.transactions → AllTo t.remote t.transactions
 
@@ -47,6 +60,7 @@ StayTo-KeepsEdits = record {
     ends = λ s none h. h;
     finishes = λ id s h t there. h t (has-filter (λ (x : Transaction). not (eqb x.id id)) t s.transactions there).0;
     resends = λ id now s h. to-resent s.remote id now s.transactions h;
+    starts = λ id now s h. to-begun s.remote id now s.transactions h;
   };
   asks = λ id text purposes now s begun askable spelled h. to-append s.remote s.transactions (first_sent id s.remote now text) refl h;
   unlists = λ which s h. h;

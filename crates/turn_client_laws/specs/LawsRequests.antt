@@ -1,19 +1,20 @@
 -- Which requests a call makes, and for what they are listed (RFC 8656, sections 7 to 12; RFC 6062, section
 -- 4).
-use Rattle.std.specs.Prelude.{◌≡◌, ◌⊎◌, ℕ, List, Some, flat_map, slice_get}
+use Rattle.std.specs.Prelude.{◌≡◌, ◌⊎◌, ℕ, ◌^◌, ◌≤◌, false, true, List, Some, flat_map, slice_get}
 use Rattle.std.specs.List.{Contains}
 use Rattle.std.specs.Net.Socket.{socket_ip}
 use Rattle.turn_stun.specs.Message.{id_of}
 use Rattle.turn_types.specs.declared.family.AddressFamily.{AddressFamily}
-use Rattle.turn_agent.specs.Agent.{first_sent, sent_again}
+use Rattle.turn_agent.specs.Agent.{first_sent, is_due, is_timed_out, sent_again, waiting_from}
 use Rattle.turn_agent.specs.declared.transaction.Transaction.{Transaction}
+use Rattle.turn_client_api.specs.Config.{timers_of}
 use Rattle.turn_client_api.specs.State.{State}
 use Rattle.turn_client_api.specs.declared.state.Phase.TheVariants.{New, Requesting, Allocated}
 use Rattle.turn_client_api.specs.declared.grant.Listing.{Listing}
 use Rattle.turn_client_api.specs.declared.grant.Purpose.{Purpose}
 use Rattle.turn_client_api.specs.declared.grant.Purpose.TheVariants.{ForAllocation, ForRefresh, ForPermission, ForChannel, ForConnect, ForBind}
 use Rattle.turn_client_api.specs.Grants.{allocations, purposes_of}
-use Rattle.turn_client_api.specs.Requests.{first_allocate, fresh_id, request_for}
+use Rattle.turn_client_api.specs.Requests.{first_allocate, fresh_id, request_for, waits_from}
 use Rattle.turn_client_api.specs.Calls.{free_number}
 use Rattle.turn_client_api.specs.Transmit.{refreshes_in}
 use Rattle.turn_client_laws.specs.Handled.{Input, processed}
@@ -29,8 +30,8 @@ abbrev pub Spells : Purpose → ℕ → List ℕ → State → Type 0
 Spells purpose id text t =
     (text ≡ request_for t purpose id) ⊎ ((purpose ≡ ForAllocation) × (t.phase ≡ Requesting) × (text ≡ first_allocate t id))
 
--- A request for the purpose was made at this time, between these two states: under the ID that was the next
--- one, to the server, and it is outstanding now.
+-- A request for the purpose was made between these two states, and waits from this time on: under the ID that was the
+-- next one, to the server, and it is outstanding now.
 pub record IsMade (purpose : Purpose) (now : ℕ) (s t : State) : Type 0 where
   pub text : List ℕ
   pub spelled : Spells purpose (fresh_id s) text t
@@ -46,14 +47,14 @@ IsListedAs purpose now s t l = IsMade purpose now s t × (l.id ≡ fresh_id s)
 
 -- ---- what the caller requests, and what is to be refreshed
 
--- the call requests this at that time
+-- the call requests this, and waits from that time on
 abbrev pub AsksFor : Call → State → Purpose → ℕ → Type 0
-AsksFor (Delete now) s purpose at = (at ≡ now) × ((family : AddressFamily) × (purpose ≡ ForRefresh family 0))
-AsksFor (CreatePermission transport ip now) s purpose at = (at ≡ now) × (purpose ≡ ForPermission ip)
+AsksFor (Delete now) s purpose at = (at ≡ waits_from now s) × ((family : AddressFamily) × (purpose ≡ ForRefresh family 0))
+AsksFor (CreatePermission transport ip now) s purpose at = (at ≡ waits_from now s) × (purpose ≡ ForPermission ip)
 AsksFor (BindChannel transport peer now) s purpose at =
-    (at ≡ now) × ((number : ℕ) × (free_number s ≡ Some number) × (purpose ≡ ForChannel number peer))
-AsksFor (TcpConnect peer now) s purpose at = (at ≡ now) × (purpose ≡ ForConnect peer)
-AsksFor (AllocatedTcpSocket id tuple peer (Some local) now) s purpose at = (at ≡ now) × (purpose ≡ ForBind local peer id)
+    (at ≡ waits_from now s) × ((number : ℕ) × (free_number s ≡ Some number) × (purpose ≡ ForChannel number peer))
+AsksFor (TcpConnect peer now) s purpose at = (at ≡ waits_from now s) × (purpose ≡ ForConnect peer)
+AsksFor (AllocatedTcpSocket id tuple peer (Some local) now) s purpose at = (at ≡ waits_from now s) × (purpose ≡ ForBind local peer id)
 AsksFor (PollTransmit now) s purpose at =
     (at ≡ now)
     × (((s.phase ≡ New) × (purpose ≡ ForAllocation))
@@ -68,10 +69,19 @@ IsListedFor purpose other = (other ≡ purpose) ⊎ brings purpose other
     brings (ForChannel number peer) (ForPermission ip) = ip ≡ socket_ip peer
     brings _ _ = ⊥
 
--- a request that was outstanding was retransmitted, with the same bytes
+-- a request that was outstanding was retransmitted, with the same bytes, or if the client is set so its waits began
 abbrev pub IsSentAgain : Call → State → Transaction → Type 0
-IsSentAgain (PollTransmit now) s x = (was : Transaction) × Contains s.transactions was × (x ≡ sent_again now was)
+IsSentAgain (PollTransmit now) s x =
+    (was : Transaction) × Contains s.transactions was
+    × ((x ≡ sent_again now was) ⊎ ((s.config.timed_from_send ≡ true) × (x ≡ waiting_from now was)))
 IsSentAgain _ s x = ⊥
+
+-- A request of a client that is set so, which waits from no time that comes before its first copy is given out: it is neither
+-- retransmitted now nor timed out.
+abbrev pub WaitsForItsTurn : ℕ → ℕ → State → Transaction → Type 0
+WaitsForItsTurn made now s x =
+    s.config.timed_from_send ≡ true → x.last_send ≡ waits_from made s → now ≤ 2 ^ 62
+    → (is_due (timers_of s.config) s.transport now x ≡ false) × (is_timed_out (timers_of s.config) s.transport now x ≡ false)
 
 -- ---- what is made again in answer to a message
 
@@ -80,12 +90,12 @@ abbrev pub IsAnswer : List ℕ → State → Purpose → Type 0
 IsAnswer message s purpose = Contains (purposes_of (id_of message) s) purpose
 
 abbrev pub IsMadeAgain : List ℕ → ℕ → State → State → Transaction → Type 0
-IsMadeAgain message now s t x = (purpose : Purpose) × IsAnswer message s purpose × IsMadeAs purpose now s t x
+IsMadeAgain message now s t x = (purpose : Purpose) × IsAnswer message s purpose × IsMadeAs purpose (waits_from now s) s t x
 
 -- the new request is listed so, for something that the old one was listed for
 abbrev pub IsListedAgain : List ℕ → ℕ → State → State → Listing → Type 0
 IsListedAgain message now s t l =
-    (purpose : Purpose) × IsAnswer message s purpose × IsAnswer message s l.purpose × IsListedAs purpose now s t l
+    (purpose : Purpose) × IsAnswer message s purpose × IsAnswer message s l.purpose × IsListedAs purpose (waits_from now s) s t l
 
 abbrev pub IsMadeByInput : Transaction → Input → Type 0
 IsMadeByInput x one = IsMadeAgain one.bytes one.time one.before (processed one).1 x

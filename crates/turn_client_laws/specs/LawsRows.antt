@@ -1,5 +1,5 @@
 -- Worked states, so that the check computes the machine's answers in them.
-use Rattle.std.specs.Prelude.{◌≡◌, ℕ, zero, suc, ◌*◌, List, [], ◌∷◌, ◌++◌, length, map, Option, Some, None, true}
+use Rattle.std.specs.Prelude.{◌≡◌, ℕ, zero, suc, ◌*◌, List, [], ◌∷◌, ◌++◌, length, map, Option, Some, None, false, true}
 use Rattle.std.specs.declared.net.ip_addr.IpAddr.{IpAddr}
 use Rattle.std.specs.declared.net.ip_addr.IpAddr.TheVariants as Ip
 use Rattle.std.specs.declared.net.socket_addr.SocketAddr.{SocketAddr}
@@ -60,6 +60,7 @@ granted_at time grants s = record s {
     request_cadence = default_request_cadence;
     keepalive = None;
     refresh_ahead = default_refresh_ahead;
+    timed_from_send = false;
   };
   transport = Udp;
   phase = Allocated;
@@ -138,7 +139,13 @@ short_timers = record { initial = 600_000_000; max = 1_000_000_000; transmission
 -- default
 abbrev pub requesting_by : Option Timers → TransportType → List ℕ → State → State
 requesting_by timers transport text s = record (requesting text s) {
-  config = record s.config { request_timers = timers; request_cadence = default_request_cadence; keepalive = None; refresh_ahead = default_refresh_ahead };
+  config = record s.config {
+    request_timers = timers;
+    request_cadence = default_request_cadence;
+    keepalive = None;
+    refresh_ahead = default_refresh_ahead;
+    timed_from_send = false;
+  };
   transport = transport;
 }
 

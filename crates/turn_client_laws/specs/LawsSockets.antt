@@ -1,5 +1,5 @@
 -- Worked data connections, so that the check computes the machine's effect on them.
-use Rattle.std.specs.Prelude.{ℕ, List, [], ◌∷◌, ◌++◌, Option, None, Result, true}
+use Rattle.std.specs.Prelude.{ℕ, List, [], ◌∷◌, ◌++◌, Option, None, Result, false, true}
 use Rattle.std.specs.declared.net.socket_addr.SocketAddr.{SocketAddr}
 use Rattle.turn_stun.specs.declared.transport.TransportType.TheVariants.{Tcp}
 use Rattle.turn_client_api.specs.Config.{default_refresh_ahead, default_request_cadence}
@@ -24,6 +24,7 @@ relaying_tcp grants s = record (over_tcp grants [] s) {
     request_cadence = default_request_cadence;
     keepalive = None;
     refresh_ahead = default_refresh_ahead;
+    timed_from_send = false;
   };
 }
 

@@ -56,7 +56,7 @@ pub use peers::only_permitted;
 pub use purposes::requests_have_two_purposes;
 pub use received::{connections_are_bound, datagrams_are_judged, pieces_are_cut};
 pub use replies::{ids_are_drawn, replies_count_once};
-pub use requests::requests_are_made;
+pub use requests::{requests_are_made, unsent_requests_wait};
 pub use rows::{
     channel_numbers_count_up, delete_is_one_request, failures_jump, first_allocate_is_spelled,
     silence_is_timed, wakeups_are_reported,

@@ -83,6 +83,7 @@ edits = record {
     ends = λ s unlisted. (λ h. absurd h, inr (λ relayed h. h));
     finishes = λ id s. (λ h. h, inr (λ relayed h. h));
     resends = λ id now s. (λ h. h, inr (λ relayed h. h));
+    starts = λ id now s. (λ h. h, inr (λ relayed h. h));
   };
   asks = λ id text purposes now s begun askable spelled. (λ h. h, inr (λ relayed h. h));
   unlists = λ which s. (λ h. h, inr (λ relayed h. h));

@@ -1,5 +1,5 @@
 -- A client whose server answers its first requests.
-use Rattle.turn_client_laws.proofs.Common.{◌≡◌, ◌≢◌, ◌⊎◌, ℕ, ◌+◌, ◌^◌, ◌<◌, ◌≤◌, min, Bool, true, false, cond, ◌||◌, ltb, eqb, List, [], ◌∷◌, ◌++◌, map, drop, Option, Some, None, refl, inl, inr, ap}
+use Rattle.turn_client_laws.proofs.Common.{◌≡◌, ◌≢◌, ◌⊎◌, ℕ, ◌+◌, ◌^◌, ◌<◌, ◌≤◌, min, Bool, true, false, cond, ◌&&◌, ◌||◌, ltb, eqb, List, [], ◌∷◌, ◌++◌, map, drop, Option, Some, None, refl, inl, inr, ap}
 use Rattle.turn_client_laws.proofs.Common.{All, sym, subst, ◌∙◌, arith, IfSome, IsSome, filter, if◌then◌else◌, nat_le, slice_get, list_any, option_map_or, and_parts, eq-eqb, eqb-true, lt-ltb}
 use Rattle.turn_client_laws.proofs.Common.{SocketAddr}
 use Rattle.turn_client_laws.proofs.Machine.{id_of, Success, Udp, Transmit, Challenge, IsValidated, validation_of, Validation, Validated, ResendRequest, Refused, challenge_of-sound, due, first_sent}
@@ -8,7 +8,7 @@ use Rattle.turn_client_laws.proofs.Machine.{Requesting, Authenticating, Allocate
 use Rattle.turn_client_laws.proofs.Machine.{binding_indication, first_allocate, fresh_id, id_used, listings, request_for, Challenged, SignedSuccess, answers_one, answers_allocate, challenge_in}
 use Rattle.turn_client_laws.proofs.Machine.{class_in, judgement_of, lifetime_in, allocate_granted, allocated, phase_with, relayed_in, taken_addresses, transaction_ended, state_after_retry, has_event}
 use Rattle.turn_client_laws.proofs.Machine.{has_reply, is_paused, keepalive_times, Outcome, Handled, message_step, signed_step, idle_step, keepalive_step, queue_step, reply_step, sent_at_once}
-use Rattle.turn_client_laws.proofs.Machine.{transmit_step, answer_by, answer_step, expired_at, next_offer, offer_step, poll_step, timed_out_step, timed_step, packet_step, state_after, state_after_all}
+use Rattle.turn_client_laws.proofs.Machine.{transmit_step, front_sent, id_in_header, waits_begun, waits_from, answer_by, answer_step, expired_at, next_offer, offer_step, poll_step, timed_out_step, timed_step, packet_step, state_after, state_after_all}
 use Rattle.turn_client_laws.proofs.Machine.{Call, Poll, PollTransmit, PollEvent, Recv, Has, all-has, cases_Option, filter-none, has-all, has-append, Config, later_by, seconds, Grant, Allocation}
 use Rattle.turn_client_laws.proofs.Machine.{min_lifetime, new_allocation, Leaves}
 use Rattle.turn_client_laws.proofs.Laws.{answer-by, has-mapped, expired_at-shrinks, HasNoDoubles, FitsPhase, IsUngranted, GrantsHaveAllocations, initial-steady, leaves-steadies}
@@ -38,6 +38,7 @@ pub record IsPlain (delay now : ℕ) (s : State) : Type 0 where
   pub over_udp : s.transport ≡ Udp
   pub prompt : delay < wait_at (timers_of s.config) s.transport 0
   pub answers : 1 ≤ s.config.max_stale_nonces
+  pub from_call : s.config.timed_from_send ≡ false
   pub closes : s.closes ≡ []
   pub events : s.events ≡ []
   pub no_reply : has_reply s ≡ false
@@ -116,7 +117,7 @@ first-transmit : (delay now until : ℕ) (s : State) (x : Transaction) → IsPla
 first-transmit delay now until s x p a range e q = rw (not_due-transmit now s (no-due delay now until s x p a range)) (by (is_paused now s))
   where
     idle : (f : Phase) (qs : List Queued) → f ≡ Requesting → qs ≡ []
-        → (option_map_or (λ q. (Some q.packet, Rattle.turn_client_api.specs.Transmit.sent now (record s { queue = drop 1 s.queue }))) (slice_get qs 0) (idle_step f now s)).1 ≡ s
+        → (option_map_or (λ q. (Some q.packet, front_sent now q s)) (slice_get qs 0) (idle_step f now s)).1 ≡ s
     idle f qs g h = rw (g, h) refl
 
     by : (b : Bool) → (if b then reply_step s else queue_step now s).1 ≡ s
@@ -140,6 +141,7 @@ second-transmit delay start now s x p a range e = rw (not_due-transmit now s (no
           over_udp = p.over_udp;
           prompt = let first = p.prompt in let all = first-wait (timers_of s.config) s.transport in omega (arith, first, all);
           answers = p.answers;
+          from_call = p.from_call;
           closes = p.closes;
           events = p.events;
           no_reply = no_reply-left s.queue p.no_reply;
@@ -151,9 +153,16 @@ second-transmit delay start now s x p a range e = rw (not_due-transmit now s (no
     idle : (f : Phase) → f ≡ Authenticating → Next (idle_step f now s).1
     idle f g = rw g same
 
-    front : (o : Option Queued) → Next (option_map_or (λ q. (Some q.packet, Rattle.turn_client_api.specs.Transmit.sent now (record s { queue = drop 1 s.queue }))) o (idle_step s.phase now s)).1
+    front : (o : Option Queued) → Next (option_map_or (λ q. (Some q.packet, front_sent now q s)) o (idle_step s.phase now s)).1
     front None = idle s.phase e
-    front (Some q) = left
+    front (Some q) = by s.config.timed_from_send p.from_call
+      where
+        by : (timed : Bool) → timed ≡ false → Next (Rattle.turn_client_api.specs.Transmit.sent now (record s {
+          queue = drop 1 s.queue;
+          transactions = cond (timed && q.is_request) (option_map_or (λ id. waits_begun id now s.transactions) (id_in_header q.packet.payload) s.transactions) s.transactions;
+        }))
+        by false e = left
+        by true e = cc
 
     by : (b : Bool) → Next (if b then reply_step s else queue_step now s).1
     by true = subst Next (sym (reply-same s p.no_reply)) same
@@ -167,7 +176,7 @@ purposes-one ls id e = rw (e, eq-eqb id id refl) refl
 
 new-transmit : (delay start now : ℕ) (s : State) → IsPlain delay now s → IsUnsent start now s → s.listed ≡ [] → s.challenges ≡ 0 → IsStage delay start now (transmit_step now s).1
 new-transmit delay start now s p u none zero = rw (unsent-transmits start now now s u) (first
-    (record { over_udp = p.over_udp; prompt = p.prompt; answers = p.answers; closes = p.closes; events = p.events; no_reply = p.no_reply; sent_before = omega arith; allocates = listed })
+    (record { over_udp = p.over_udp; prompt = p.prompt; answers = p.answers; from_call = p.from_call; closes = p.closes; events = p.events; no_reply = p.no_reply; sent_before = omega arith; allocates = listed })
     (first_sent id s.remote now text)
     (record { only = rw u.none refl; young = refl; sent = let b = u.begins in omega (arith, b); heard = omega arith })
     refl
@@ -230,11 +239,14 @@ first-answered delay start now packet s x p a q purposes zero is =
   where
     next : (c : Challenge) → x.id ≡ id_of packet.payload → IsStage delay start now (state_after_retry s (id_of packet.payload) ForAllocation c now)
     next c same = second
-        (record { over_udp = p.over_udp; prompt = p.prompt; answers = p.answers; closes = p.closes; events = p.events; no_reply = rw q refl; sent_before = p.sent_before; allocates = listed })
-        (first_sent _ s.remote now _)
-        (record { only = ended (id_of packet.payload) same; young = refl; sent = let h = a.heard in let b = a.sent in omega (arith, h, b); heard = omega arith })
+        (record { over_udp = p.over_udp; prompt = p.prompt; answers = p.answers; from_call = p.from_call; closes = p.closes; events = p.events; no_reply = rw q refl; sent_before = p.sent_before; allocates = listed })
+        (first_sent _ s.remote (waits_from now s) _)
+        (record { only = ended (id_of packet.payload) same; young = refl; sent = let h = a.heard in let b = a.sent in rw waits (omega (arith, h, b)); heard = rw waits (omega arith) })
         (after s.phase is.phase)
       where
+        waits : waits_from now s ≡ now
+        waits = rw p.from_call refl
+
         listed : (l : Listing) → Has l (s.listed ++ listings (fresh_id s) (purposes_of (id_of packet.payload) s)) → is_for_allocation l.purpose ≡ true
         listed l h = elim (has-append l s.listed (listings (fresh_id s) (purposes_of (id_of packet.payload) s)) h) [
           | inl old ↦ p.allocates l old
@@ -306,7 +318,7 @@ sent-allocated now s e = again (due (agent_of s) now)
     idle : (f : Phase) → f ≡ Allocated → Is (idle_step f now s)
     idle f g = rw g (refresh _)
 
-    front : (o : Option Queued) → Is (option_map_or (λ q. (Some q.packet, Rattle.turn_client_api.specs.Transmit.sent now (record s { queue = drop 1 s.queue }))) o (idle_step s.phase now s))
+    front : (o : Option Queued) → Is (option_map_or (λ q. (Some q.packet, front_sent now q s)) o (idle_step s.phase now s))
     front None = idle s.phase e
     front (Some q) = e
 
@@ -358,6 +370,7 @@ plain-later delay before now s p later = record {
   over_udp = p.over_udp;
   prompt = p.prompt;
   answers = p.answers;
+  from_call = p.from_call;
   closes = p.closes;
   events = p.events;
   no_reply = p.no_reply;
@@ -425,17 +438,17 @@ has-allocation delay start now s (first p x a e q ps zero) late = let h = a.hear
 has-allocation delay start now s (second p x a e) late = let h = a.heard in let b = a.sent in absurd (omega (arith, h, b, late))
 has-allocation delay start now s (done e) late = e
 
-begins : (local remote : SocketAddr) (config : Config) (seed : List ℕ) (delay start : ℕ) → 1 ≤ config.max_stale_nonces → delay < wait_at (timers_of config) Udp 0
+begins : (local remote : SocketAddr) (config : Config) (seed : List ℕ) (delay start : ℕ) → 1 ≤ config.max_stale_nonces → config.timed_from_send ≡ false → delay < wait_at (timers_of config) Udp 0
     → IsStage delay start start (initial Udp local remote config seed)
-begins local remote config seed delay start some prompt =
-    new (record { over_udp = refl; prompt = prompt; answers = some; closes = refl; events = refl; no_reply = refl; sent_before = tt; allocates = λ l h. absurd h })
+begins local remote config seed delay start some from_call prompt =
+    new (record { over_udp = refl; prompt = prompt; answers = some; from_call = from_call; closes = refl; events = refl; no_reply = refl; sent_before = tt; allocates = λ l h. absurd h })
     (record { phase = refl; queue = refl; events = refl; closes = refl; none = refl; never = refl; begins = refl }) refl refl
 
 pub run-handshake : HandshakeSucceeds
-run-handshake local remote config seed delay start now calls some prompt run t late =
+run-handshake local remote config seed delay start now calls some from_call prompt run t late =
     let s = initial Udp local remote config seed in
     let last = state_after_all s calls in
-    has-allocation delay start now last (passes delay start (time_of_all start calls) now last (all-on delay start start s calls (begins local remote config seed delay start some prompt) run) t) late
+    has-allocation delay start now last (passes delay start (time_of_all start calls) now last (all-on delay start start s calls (begins local remote config seed delay start some from_call prompt) run) t) late
 
 -- ---- the state just after
 
@@ -520,7 +533,7 @@ steady-next count slots extras delay start now lifetime packet s (fits, distinct
         by g (address, there, e) = rw e refl
 
 pub run-steadily : HandshakeEndsSteadily
-run-steadily local remote config seed delay start now calls packet count slots extras lifetime some prompt run t is empty said enough room within =
+run-steadily local remote config seed delay start now calls packet count slots extras lifetime some from_call prompt run t is empty said enough room within =
     let s = initial Udp local remote config seed in
     let last = state_after_all s calls in
     let fit = kept-behind AreFit fit-stays s calls (
@@ -528,7 +541,7 @@ run-steadily local remote config seed delay start now calls packet count slots e
       initial-single Udp local remote config seed,
       initial-GrantsHaveAllocations Udp local remote config seed,
     ) in
-    by (passes delay start (time_of_all start calls) now last (all-on delay start start s calls (begins local remote config seed delay start some prompt) run) t) fit
+    by (passes delay start (time_of_all start calls) now last (all-on delay start start s calls (begins local remote config seed delay start some from_call prompt) run) t) fit
   where
     last : State
     last = state_after_all (initial Udp local remote config seed) calls

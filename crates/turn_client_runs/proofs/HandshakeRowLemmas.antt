@@ -414,6 +414,6 @@ handshake-is-worked local remote config seed =
       allocates = allocates;
       granted = granted;
       steady = run-steadily local remote (h0 local remote config seed).config seed 100_000_000 0 200_000_000
-          (handshake_calls (h0 local remote config seed)) (allocation_packet (last local remote config seed)) 3 1 0 600 (omega arith) (omega arith)
+          (handshake_calls (h0 local remote config seed)) (allocation_packet (last local remote config seed)) 3 1 0 600 (omega arith) refl (omega arith)
           (runs local remote config seed) in_time allocates empty said (omega arith) (omega arith) within;
     }

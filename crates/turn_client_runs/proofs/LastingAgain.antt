@@ -2,14 +2,14 @@
 use Rattle.turn_client_laws.proofs.Common.{◌≡◌, ◌⊎◌, ℕ, ◌+◌, ◌-◌, ◌*◌, ◌^◌, ◌<◌, ◌≤◌, min, Bool, true, false, cond, not, ◌||◌, eqb, List, [], ◌∷◌, length, map, Some, refl, inl, inr, ap, sym, subst}
 use Rattle.turn_client_laws.proofs.Common.{◌∙◌, arith, filter, list_any, and_parts, cases_Bool, cases_lt, eq-eqb, eqb-true, leb-true, not_from_false, or_left, length-append, list_any-append}
 use Rattle.turn_client_laws.proofs.Machine.{due, first_sent, is_due, resent, sent_again, without_transaction, Timers, wait_at, Transaction, Challenge, timers_of, pause_end, has_request, is_for}
-use Rattle.turn_client_laws.proofs.Machine.{purposes_of, fresh_id, listings, request_for, to_server, phase_after, state_after_retry, with_held, transaction_ended, State, agent_of, Phase, Allocated}
+use Rattle.turn_client_laws.proofs.Machine.{purposes_of, fresh_id, listings, request_for, to_server, phase_after, state_after_retry, with_held, transaction_ended, waits_from, State, agent_of, Phase, Allocated}
 use Rattle.turn_client_laws.proofs.Machine.{Queued, Grant, Listing, Purpose, Has, filter-has, has-append, has-filter, has-found, has-left, has-right, map-has}
 use Rattle.turn_client_laws.proofs.Laws.{has-mapped, any-has, has-any, purpose-with}
 use Rattle.turn_client_runs.specs.History.{History, IsSeldom, extra_since, waited}
 use Rattle.turn_client_runs.specs.Lasting.{expiry_of}
 use Rattle.turn_client_runs.proofs.AppendLemmas.{has-last}
 use Rattle.turn_client_runs.proofs.LastingCounts.{passes-all}
-use Rattle.turn_client_runs.proofs.LastingHistory.{GoesOn, known-later, lone-more, waited-next}
+use Rattle.turn_client_runs.proofs.LastingHistory.{from-later, GoesOn, known-later, lone-more, waited-next}
 use Rattle.turn_client_runs.proofs.LastingListings.{requests-more}
 use Rattle.turn_client_runs.proofs.LastingStands.{Goes, IsAsked, IsAwaited, IsIdle, IsKept, IsRequest, IsRequested, Stands, due_of, early-paced, extra-paced, listed_as, asked-before, is_served}
 use Rattle.turn_client_runs.proofs.LastingStands.{is_waiting, served, more-paced, pause-paced, used, Lag, taken}
@@ -57,6 +57,21 @@ module _ (count slots extras : ℕ) (lag : Lag) (delay now : ℕ) (past later : 
 
       by : (b : Bool) → eqb y.id x.id ≡ b → later.made y.id + waited timers s.transport (cond b (sent_again now y) y).resends ≤ (cond b (sent_again now y) y).last_send
       by false e = let old = k.aged y h in omega (arith, made, old)
+      by true e =
+          let one : y ≡ x = k.lone y x h is.0 (eqb-true y.id x.id e) in
+          let old = k.aged y h in
+          let next = waited-next timers s.transport y.resends in
+          let late : y.last_send + wait_at timers s.transport y.resends ≤ now = subst (λ (z : Transaction). z.last_send + wait_at timers s.transport z.resends ≤ now) (sym one) over in
+          omega (arith, made, old, next, late)
+
+  begun-again : (y : Transaction) → Has y s.transactions → later.made (again y).id + waited timers s.transport (again y).resends ≤ now
+  begun-again y h = rw (same-id y) (by (eqb y.id x.id) refl)
+    where
+      made : later.made y.id ≡ past.made y.id
+      made = on.same y h
+
+      by : (b : Bool) → eqb y.id x.id ≡ b → later.made y.id + waited timers s.transport (cond b (sent_again now y) y).resends ≤ now
+      by false e = let old = k.begun y h in omega (arith, made, old)
       by true e =
           let one : y ≡ x = k.lone y x h is.0 (eqb-true y.id x.id e) in
           let old = k.aged y h in
@@ -144,9 +159,7 @@ module _ (count slots extras : ℕ) (lag : Lag) (delay now : ℕ) (past later : 
         f ∙ (ap again one ∙ sym g);
     begun = λ y h.
         let (z, there, e) = came y h in
-        let same = on.same z there in
-        let begun = k.begun z there in
-        subst (λ (y : Transaction). later.made y.id ≤ now) (sym e) (rw (same-id z) (omega (arith, same, begun)));
+        subst (λ (y : Transaction). later.made y.id + waited timers s.transport y.resends ≤ now) (sym e) (begun-again z there);
     heard = λ y h.
         let (z, there, e) = came y h in
         let same = on.same z there in
@@ -197,7 +210,7 @@ module _ (count slots extras : ℕ) (lag : Lag) (delay now : ℕ) (past later : 
   text = retry_text s id purpose challenge
 
   abbrev new : Transaction
-  new = first_sent (fresh_id s) s.remote now text
+  new = first_sent (fresh_id s) s.remote (waits_from now s) text
 
   abbrev left : List Transaction
   left = without_transaction id s.transactions
@@ -341,12 +354,12 @@ module _ (count slots extras : ℕ) (lag : Lag) (delay now : ℕ) (past later : 
     sent = k.sent;
     aged = λ x h. elim (has-last x left new h) [
       | inl old ↦ let same = on.same x (still x old) in let was = k.aged x (still x old) in omega (arith, same, was)
-      | inr e ↦ rw e (omega (arith, early_made))
+      | inr e ↦ let later = from-later now s k.in_range in rw e (omega (arith, early_made, later))
     ];
     lone = lone-more s left new refl still (λ x y hx hy e. k.lone x y (still x hx) (still y hy) e);
     begun = λ x h. elim (has-last x left new h) [
       | inl old ↦ let same = on.same x (still x old) in let begun = k.begun x (still x old) in omega (arith, same, begun)
-      | inr e ↦ rw e early_made
+      | inr e ↦ rw e (omega (arith, early_made))
     ];
     heard = λ x h. elim (has-last x left new h) [
       | inl old ↦ let same = on.same x (still x old) in let late = k.heard x (still x old) in omega (arith, same, late)

@@ -8,14 +8,14 @@ use Rattle.turn_client_laws.proofs.Machine.{family_of_ip, find_allocation, find_
 use Rattle.turn_client_laws.proofs.Machine.{same_transport, with_grant, fresh_id, listings, queued, request_for, request_started, requested, to_server, bind_channel, bind_channel_step, bound_by}
 use Rattle.turn_client_laws.proofs.Machine.{channel_numbers, channel_step, channels_to, create_permission_step, free_number, in_allocation, is_allocated, is_in_progress, is_number_taken}
 use Rattle.turn_client_laws.proofs.Machine.{missing_permission, permission_step, reserved_from, is_kept, pause_end, map-has, Has, filter_map-has, has-append, has-found, has-left, has-right}
-use Rattle.turn_client_laws.proofs.Machine.{allocation-there, with_more_grants}
+use Rattle.turn_client_laws.proofs.Machine.{allocation-there, waits_from, with_more_grants}
 use Rattle.turn_client_laws.proofs.Laws.{any-has, Room, has-any, allocation-room, room-more, has-mapped}
 use Rattle.turn_client_api.specs.declared.error.BindChannelError.TheVariants as Bind
 use Rattle.turn_client_api.specs.declared.error.CreatePermissionError.TheVariants as Create
 use Rattle.turn_client_runs.specs.History.{History}
 use Rattle.turn_client_runs.specs.Lasting.{expiry_of}
 use Rattle.turn_client_runs.proofs.AppendLemmas.{has-last}
-use Rattle.turn_client_runs.proofs.LastingHistory.{lone-more}
+use Rattle.turn_client_runs.proofs.LastingHistory.{from-later, lone-more}
 use Rattle.turn_client_runs.proofs.LastingCounts.{passes, passes-all, passes-append, passes-none}
 use Rattle.turn_client_runs.proofs.LastingStands.{Goes, IsPending, IsRequested, requested-more, AreSingle, IsAsked, IsRequest, IsAwaited, IsIdle, IsKept, IsUnique, Stands, allocation-stands, due_of}
 use Rattle.turn_client_runs.proofs.LastingStands.{more-paced, asked-before, leased-active, IsLoose, is_served, is_waiting, not-waiting, served, stands-early, unique-refreshing}
@@ -29,7 +29,7 @@ use Rattle.turn_client_runs.proofs.LastingReplies.{for-joins}
 
 -- a request for permissions or channels is made and queued
 abbrev pub asks : List Purpose → List Grant → ℕ → List ℕ → State → State
-asks ps news now text s = queued true s.local text (request_started (fresh_id s) text ps now (with_more_grants news s))
+asks ps news now text s = queued true s.local text (request_started (fresh_id s) text ps (waits_from now s) (with_more_grants news s))
 
 -- what is requested waits, did not exist, and has an allocation
 pub record AreNew (s : State) (ps : List Purpose) (news : List Grant) : Type 0 where
@@ -54,7 +54,7 @@ module _ (count slots extras : ℕ) (lag : Lag) (delay now : ℕ) (past : Histor
   t = asks ps news now text s
 
   abbrev sent : Transaction
-  sent = first_sent id s.remote now text
+  sent = first_sent id s.remote (waits_from now s) text
 
   abbrev packet : Queued
   packet = record { packet = to_server s s.local text; is_request = true }
@@ -153,7 +153,7 @@ module _ (count slots extras : ℕ) (lag : Lag) (delay now : ℕ) (past : Histor
     sent = k.sent;
     aged = λ x h. elim (has-last x s.transactions sent h) [
       | inl old ↦ k.aged x old
-      | inr e ↦ rw e (omega (arith, fresh))
+      | inr e ↦ let later = from-later now s k.in_range in rw e (omega (arith, fresh, later))
     ];
     lone = lone-more s s.transactions sent refl (λ x h. h) k.lone;
     begun = λ x h. elim (has-last x s.transactions sent h) [

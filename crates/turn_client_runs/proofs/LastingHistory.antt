@@ -3,7 +3,7 @@ use Rattle.turn_client_laws.proofs.Common.{◌≡◌, ℕ, zero, suc, ◌+◌, �
 use Rattle.turn_client_laws.proofs.Common.{sym, subst, ◌∙◌, arith, filter, map, nat_le, list_any, and_parts, and_right, eq-eqb, le-leb, leb-true, lt-leb, not-true, or_cases, or_left, or_parts}
 use Rattle.turn_client_laws.proofs.Common.{or_right, length-append, filter-append}
 use Rattle.turn_client_laws.proofs.Machine.{TransportType, id_of, is_outstanding, timed_out_transaction, transaction_timeout, Timers, resends_of, wait_at, Transaction, timers_of, fresh_id, State}
-use Rattle.turn_client_laws.proofs.Machine.{agent_of, state_after, Call, Recv, is_kept, Grant, Listing, Permission, Channel, Has, find-none}
+use Rattle.turn_client_laws.proofs.Machine.{agent_of, waits_from, state_after, Call, Recv, is_kept, Grant, Listing, Permission, Channel, Has, find-none}
 use Rattle.turn_client_laws.proofs.Laws.{has-any, fresh-free}
 use Rattle.turn_client_runs.specs.History.{History, is_replied, IsSeldom, all_waits, extra_since, first_made, is_extra, lets_channel_go, lets_permission_go, lost, waited, was_let_go, with_call}
 use Rattle.turn_client_runs.specs.Lasting.{expiry_of}
@@ -16,6 +16,14 @@ use Rattle.turn_client_runs.proofs.SilenceLemmas.{waited-mono}
 -- once the last wait is over, all are
 all-waited : (timers : Timers) (transport : TransportType) (r : ℕ) → resends_of timers transport ≤ r → all_waits timers transport ≤ waited timers transport r + wait_at timers transport r
 all-waited timers transport r last = waited-mono timers transport (suc (resends_of timers transport)) (suc r) (omega (arith, last))
+
+-- no request waits from before it is made
+pub from-later : (now : ℕ) (s : State) → now ≤ 2 ^ 62 → now ≤ waits_from now s
+from-later now s range = by s.config.timed_from_send
+  where
+    by : (timed : Bool) → now ≤ cond timed (2 ^ 63 - 1) now
+    by true = omega (arith, range)
+    by false = omega arith
 
 pub waited-next : (timers : Timers) (transport : TransportType) (r : ℕ) → waited timers transport (r + 1) ≡ waited timers transport r + wait_at timers transport r
 waited-next timers transport r =

@@ -264,7 +264,7 @@ pub record IsKept (count slots extras : ℕ) (lag : Lag) (delay now : ℕ) (past
   pub sent : IfSome s.last_send (λ time. time ≤ now)
   pub aged : (x : Transaction) → Has x s.transactions → past.made x.id + waited (timers_of s.config) s.transport x.resends ≤ x.last_send
   pub lone : (x y : Transaction) → Has x s.transactions → Has y s.transactions → x.id ≡ y.id → x ≡ y
-  pub begun : (x : Transaction) → Has x s.transactions → past.made x.id ≤ now
+  pub begun : (x : Transaction) → Has x s.transactions → past.made x.id + waited (timers_of s.config) s.transport x.resends ≤ now
   pub heard : (x : Transaction) → Has x s.transactions → now ≤ past.made x.id + delay
   pub seldom : IsSeldom extras s.config.refresh_ahead now past
   pub row : s.challenges ≤ past.challenged

@@ -5,7 +5,7 @@ use Rattle.turn_client_laws.proofs.Common.{or_cases, or_left, or_right, list_any
 use Rattle.turn_client_laws.proofs.Machine.{Transmit, due, first_sent, State, agent_of, Queued, Grant, Allocation, Permission, Channel, Relay, Active, Pending, Reserved, Listing, Purpose, ForRefresh}
 use Rattle.turn_client_laws.proofs.Machine.{ForPermission, ForChannel, allocations, as_allocation, family_of, family_of_grant, has_request, is_for, same_ip, asked_lifetime, binding_indication}
 use Rattle.turn_client_laws.proofs.Machine.{fresh_id, id_used, request_for, to_server, has_reply, is_paused, is_refreshable, keepalive_times, refresh_time, is_due_in, is_refresh_due, keepalive_step}
-use Rattle.turn_client_laws.proofs.Machine.{next_refresh, queue_step, refresh_purpose, refreshes_in, refreshes_of_rank, reply_in, reply_step, sent_at_once, transmit_step, Has}
+use Rattle.turn_client_laws.proofs.Machine.{next_refresh, queue_step, front_sent, id_in_header, waits_begun, refresh_purpose, refreshes_in, refreshes_of_rank, reply_in, reply_step, sent_at_once, transmit_step, Has}
 use Rattle.turn_client_laws.proofs.Machine.{filter_map-has, first-has, has-filter, has-filter_map, has-flat_map, has-left, has-right}
 use Rattle.turn_client_laws.proofs.Laws.{same_family-self, IsReserved, no_reply-kept, not_due-transmit, no_reply-left}
 use Rattle.std.specs.Prelude.{option_and_then}
@@ -21,6 +21,7 @@ use Rattle.turn_client_runs.proofs.LastingStands.{Goes, goes-more, granted-activ
 use Rattle.turn_client_runs.proofs.LastingStands.{IsRefreshing, Stands, allocation-stands, stands-early, bound, bound-le, soon-by, Lag, taken, due_of, left-paced, one-paced, is_served, is_waiting, kind-due, not-waiting}
 use Rattle.turn_client_runs.proofs.LastingStands.{served, used}
 use Rattle.turn_client_runs.proofs.LastingSends.{due-sends, is-due, may-refresh, queue-idle}
+use Rattle.turn_client_runs.proofs.LastingBegun.{goes-begun, kept-begun}
 use Rattle.turn_client_runs.proofs.LastingListings.{requests-more}
 use Rattle.turn_client_runs.proofs.LastingTime.{bound-early}
 use Rattle.turn_client_runs.proofs.GrantInputs.{IsLeased}
@@ -426,18 +427,29 @@ transmit-kept count slots extras lag delay now past s k fresh none = rw (not_due
     queued : (queue : List Queued) → s.queue ≡ queue → Keeps (queue_step now s)
     queued [] e = rw (queue-idle now s e k.phase) (refreshes e (next_refresh now s) refl)
     queued (q ∷ qs) e =
-        let is : queue_step now s ≡ (Some q.packet, record s { queue = drop 1 s.queue; last_send = Some now }) = front s.queue e in
-        subst Keeps (sym is) (
-          kept-queued count slots extras lag delay now past s k q qs e,
-          goes-more past s.transactions s.transactions s (record s { queue = drop 1 s.queue; last_send = Some now }) refl
-              (λ x h. h) (λ l h. h),
-        )
+        let is : queue_step now s ≡ (Some q.packet, front_sent now q s) = front s.queue e in
+        subst Keeps (sym is) (by (s.config.timed_from_send && q.is_request) (id_in_header q.packet.payload))
       where
         front : (queue : List Queued) → queue ≡ q ∷ qs
-            → (option_map_or (λ q. (Some q.packet, Rattle.turn_client_api.specs.Transmit.sent now (record s { queue = drop 1 s.queue }))) (slice_get queue 0)
-            (Rattle.turn_client_api.specs.Transmit.idle_step s.phase now s))
-            ≡ (Some q.packet, record s { queue = drop 1 s.queue; last_send = Some now })
+            → (option_map_or (λ q. (Some q.packet, front_sent now q s)) (slice_get queue 0) (Rattle.turn_client_api.specs.Transmit.idle_step s.phase now s))
+            ≡ (Some q.packet, front_sent now q s)
         front queue e = rw e refl
+
+        v : State
+        v = record s { queue = drop 1 s.queue; last_send = Some now }
+
+        left : IsKept count slots extras (taken now lag) delay now past s.transactions v
+        left = kept-queued count slots extras lag delay now past s k q qs e
+
+        same-left : Keeps (Some q.packet, v)
+        same-left = (left, goes-more past s.transactions s.transactions s v refl (λ x h. h) (λ l h. h))
+
+        -- its waits may begin now
+        by : (timed : Bool) (o : Option ℕ) → Keeps
+            (Some q.packet, record v { transactions = cond timed (option_map_or (λ id. waits_begun id now s.transactions) o s.transactions) s.transactions })
+        by true (Some id) = (kept-begun count slots extras (taken now lag) delay now past v left id, goes-begun count slots extras (taken now lag) delay now past v left id s refl refl)
+        by true None = same-left
+        by false o = same-left
 
     by : (b : Bool) → Keeps (if b then reply_step s else queue_step now s)
     by true = same (reply_step s) (empty-kept s k.requests)

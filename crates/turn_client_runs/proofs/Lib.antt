@@ -29,6 +29,7 @@ pub mod InOrderRuns
 pub mod InOrderSteps
 pub mod InputsOfRuns
 pub mod LastingAgain
+pub mod LastingBegun
 pub mod LastingCalls
 pub mod LastingCounts
 pub mod LastingEffects

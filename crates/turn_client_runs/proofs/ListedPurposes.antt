@@ -99,23 +99,23 @@ refresh-none now g p is e = none-some p e
 next-none : (now : ℕ) (s : State) (p : Purpose) → IsForConnection p → slice_get (flat_map (refreshes_in now s) (allocations s)) 0 ≡ Some p → ⊥
 next-none now s p is e = let next = next-of now s p e in refresh-none now next.grant p is next.gives
 
-asks-connect : (peer : SocketAddr) (call : Call) (s : State) (at : ℕ) → AsksFor call s (ForConnect peer) at → call ≡ TcpConnect peer at
+asks-connect : (peer : SocketAddr) (call : Call) (s : State) (at : ℕ) → AsksFor call s (ForConnect peer) at → (now : ℕ) × (call ≡ TcpConnect peer now)
 asks-connect peer (Delete now) s at (e, (family, f)) = cc
 asks-connect peer (CreatePermission transport ip now) s at (e, f) = cc
 asks-connect peer (BindChannel transport to now) s at (e, (number, free, f)) = cc
-asks-connect peer (TcpConnect to now) s at (e, f) = cc
+asks-connect peer (TcpConnect to now) s at (e, f) = (now, cc)
 asks-connect peer (AllocatedTcpSocket id tuple to (Some local) now) s at (e, f) = cc
 asks-connect peer (PollTransmit now) s at (e, inl (new, f)) = cc
 asks-connect peer (PollTransmit now) s at (e, inr (phase, f)) = absurd (next-none now s (ForConnect peer) tt f)
 asks-connect peer call s at asks = absurd asks
 
 asks-bind : (id : ℕ) (local peer : SocketAddr) (call : Call) (s : State) (at : ℕ) → AsksFor call s (ForBind local peer id) at
-    → (tuple : Socket5Tuple) × (call ≡ AllocatedTcpSocket id tuple peer (Some local) at)
+    → (tuple : Socket5Tuple) × (now : ℕ) × (call ≡ AllocatedTcpSocket id tuple peer (Some local) now)
 asks-bind id local peer (Delete now) s at (e, (family, f)) = cc
 asks-bind id local peer (CreatePermission transport ip now) s at (e, f) = cc
 asks-bind id local peer (BindChannel transport to now) s at (e, (number, free, f)) = cc
 asks-bind id local peer (TcpConnect to now) s at (e, f) = cc
-asks-bind id local peer (AllocatedTcpSocket other tuple to (Some from) now) s at (e, f) = (tuple, cc)
+asks-bind id local peer (AllocatedTcpSocket other tuple to (Some from) now) s at (e, f) = (tuple, now, cc)
 asks-bind id local peer (PollTransmit now) s at (e, inl (new, f)) = cc
 asks-bind id local peer (PollTransmit now) s at (e, inr (phase, f)) = absurd (next-none now s (ForBind local peer id) tt f)
 asks-bind id local peer call s at asks = absurd asks
@@ -176,9 +176,9 @@ connect-listed peer call s h = elim (call-listed (ForConnect peer) call s h) [
   | inl old ↦ inl old
   | inr (purpose, at, asks, for) ↦
       let same = for-connection purpose (ForConnect peer) tt for in
-      let named = asks-connect peer call s at (subst (λ (q : Purpose). AsksFor call s q at) (sym same) asks) in
-      elim (connect-accepted peer at s) [
-        | inl accepted ↦ inr (at, named, accepted)
+      let (now, named) = asks-connect peer call s at (subst (λ (q : Purpose). AsksFor call s q at) (sym same) asks) in
+      elim (connect-accepted peer now s) [
+        | inl accepted ↦ inr (now, named, accepted)
         | inr unlisted ↦
             let before : (state_after call s).listed ≡ s.listed = ap (λ (c : Call). (state_after c s).listed) named ∙ unlisted in
             inl (h.0, subst (Has (listing h.0 (ForConnect peer))) before h.1)
@@ -196,9 +196,9 @@ bind-listed id local peer call s h = elim (call-listed (ForBind local peer id) c
   | inl old ↦ inl old
   | inr (purpose, at, asks, for) ↦
       let same = for-connection purpose (ForBind local peer id) tt for in
-      let (tuple, named) = asks-bind id local peer call s at (subst (λ (q : Purpose). AsksFor call s q at) (sym same) asks) in
-      elim (socket-accepted id tuple local peer at s) [
-        | inl opens ↦ inr (tuple, at, named, opens)
+      let (tuple, now, named) = asks-bind id local peer call s at (subst (λ (q : Purpose). AsksFor call s q at) (sym same) asks) in
+      elim (socket-accepted id tuple local peer now s) [
+        | inl opens ↦ inr (tuple, now, named, opens)
         | inr unlisted ↦
             let before : (state_after call s).listed ≡ s.listed = ap (λ (c : Call). (state_after c s).listed) named ∙ unlisted in
             inl (h.0, subst (Has (listing h.0 (ForBind local peer id))) before h.1)

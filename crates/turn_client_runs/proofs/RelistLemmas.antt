@@ -8,7 +8,7 @@ use Rattle.turn_client_laws.proofs.Machine.{connection_at, is_connected, accepts
 use Rattle.turn_client_laws.proofs.Machine.{has_code, in_phase, find_allocation_to, is_connection_from, is_for_allocation, purposes_of, unlisted, wait, Judgement, Challenged, Fatal, ConnectionAttempt}
 use Rattle.turn_client_laws.proofs.Machine.{SignedRequest, SignedSuccess, SignedError, bind_judgement, connection_id_in, is_bind_of, judgement_of, lifetime_in, method_in, peer_in, Outcome, Handled}
 use Rattle.turn_client_laws.proofs.Machine.{Ignored, challenge_step, channel_sent, datagram_step, is_channel_frame, is_message, message_step, response_step, signed_step, wrong_step}
-use Rattle.turn_client_laws.proofs.Machine.{connection_attempt_method, connection_bind_method, fresh_id, listings, request_for, requested, retried, state_after_retry, with_held, frame_step, Has}
+use Rattle.turn_client_laws.proofs.Machine.{connection_attempt_method, connection_bind_method, fresh_id, listings, request_for, requested, waits_from, retried, state_after_retry, with_held, frame_step, Has}
 use Rattle.turn_client_laws.proofs.Machine.{has-right}
 use Rattle.turn_client_laws.proofs.Laws.{Input, processed, IsMade, has-mapped, Adds, Never, adds-filter, adds-more, adds-same, adds-wider, on_test, requested-made, has-contains}
 use Rattle.turn_agent.specs.Agent as A
@@ -21,7 +21,7 @@ IsRetriedFor message s purpose p =
     (p ≡ purpose) ⊎ ((retried (purposes_of (id_of message) s) ≡ Some purpose) × Has p (purposes_of (id_of message) s))
 
 abbrev pub IsRelisted : List ℕ → ℕ → State → State → Listing → Type 0
-IsRelisted message now s t l = (purpose : Purpose) × IsMade purpose now s t × (l.id ≡ fresh_id s) × IsRetriedFor message s purpose l.purpose
+IsRelisted message now s t l = (purpose : Purpose) × IsMade purpose (waits_from now s) s t × (l.id ≡ fresh_id s) × IsRetriedFor message s purpose l.purpose
 
 -- what is listed after the message was so before, or is listed so
 abbrev pub Relists : List ℕ → ℕ → State → State → Type 0
@@ -34,7 +34,7 @@ same : (message : List ℕ) (now : ℕ) (s t : State) → t.listed ≡ s.listed 
 same message now s t e = still message now s t (rw e (adds-same Never s.listed))
 
 -- the listings of a request that is made for one purpose
-relisted : (message : List ℕ) (now : ℕ) (s t : State) (purpose : Purpose) → IsMade purpose now s t → (some : List Purpose) → ((p : Purpose) → Has p some → IsRetriedFor message s purpose p)
+relisted : (message : List ℕ) (now : ℕ) (s t : State) (purpose : Purpose) → IsMade purpose (waits_from now s) s t → (some : List Purpose) → ((p : Purpose) → Has p some → IsRetriedFor message s purpose p)
     → (l : Listing) → Has l (listings (fresh_id s) some) → IsRelisted message now s t l
 relisted message now s t purpose made some each l there =
     let (p, h, e) = has-mapped (λ (p : Purpose). record { id = fresh_id s; purpose = p }) l some there in
@@ -55,9 +55,9 @@ retry-relists message purpose d now s first =
     t = state_after_retry s (id_of message) purpose d now
 
     x : Transaction
-    x = first_sent (fresh_id s) t.remote now (request_for t purpose (fresh_id s))
+    x = first_sent (fresh_id s) t.remote (waits_from now s) (request_for t purpose (fresh_id s))
 
-    made : IsMade purpose now s t
+    made : IsMade purpose (waits_from now s) s t
     made = record {
       text = request_for t purpose (fresh_id s);
       spelled = inl refl;
@@ -160,7 +160,7 @@ again-relists c message d now s = by (find (is_bind_of c.local) (purposes_of (id
     by None e = rw e (same message now s s refl)
     by (Some purpose) e =
         let asked = requested (fresh_id s) purpose now u in
-        let made : IsMade purpose now s asked = record { text = request_for u purpose (fresh_id s); spelled = inl refl; outstanding = (requested-made purpose now s u).outstanding } in
+        let made : IsMade purpose (waits_from now s) s asked = record { text = request_for u purpose (fresh_id s); spelled = inl refl; outstanding = (requested-made purpose now s u).outstanding } in
         rw e (
         adds-more _ s.listed u.listed (listings (fresh_id s) (purpose ∷ [])) (adds-filter _ _ s.listed)
         (relisted message now s _ purpose (record { text = made.text; spelled = made.spelled; outstanding = made.outstanding }) (purpose ∷ []) (alone message s purpose))

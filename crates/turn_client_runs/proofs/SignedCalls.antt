@@ -64,7 +64,9 @@ abbrev AsksSo : Call → State → Type 0
 AsksSo call s = (x : Transaction) → IsRequestOf call s x → Asks s x
 
 transmit-asks : (now : ℕ) (s : State) → AsksSo (PollTransmit now) s
-transmit-asks now s x (inl (was, there, e)) =
+transmit-asks now s x (inl (was, there, inl e)) =
+    inl (was, contains-has was s.transactions there, ap (λ (y : Transaction). y.id) e, ap (λ (y : Transaction). y.request) e)
+transmit-asks now s x (inl (was, there, inr (timed, e))) =
     inl (was, contains-has was s.transactions there, ap (λ (y : Transaction). y.id) e, ap (λ (y : Transaction). y.request) e)
 transmit-asks now s x (inr (purpose, at, (same, inl (new, first)), (made, e))) = inr (inl (new, ap (λ (y : Transaction). y.id) e))
 transmit-asks now s x (inr (purpose, at, (same, inr (allocated, due)), made)) = inr (inr allocated)

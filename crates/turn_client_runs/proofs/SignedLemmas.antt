@@ -2,7 +2,7 @@
 -- ALLOCATE: messages keep that.
 use Rattle.turn_client_laws.proofs.Common.{◌≡◌, ◌≤◌, ◌∙◌, ◌+◌, ℕ, Bool, true, false, not, eqb, ltb, List, [], ◌∷◌, ◌++◌, Option, Some, None, inl, inr, refl, sym, subst, ap, arith, IsSome, is_some, ⊤}
 use Rattle.turn_client_laws.proofs.Common.{and_parts, eq-eqb, eqb-true, SocketAddr}
-use Rattle.turn_client_laws.proofs.Machine.{id_of, Challenge, first_sent, is_outstanding, is_response, without_transaction, Transaction, Config, State, Purpose, ForAllocation, Phase, New, Requesting}
+use Rattle.turn_client_laws.proofs.Machine.{waits_from, id_of, Challenge, first_sent, is_outstanding, is_response, without_transaction, Transaction, Config, State, Purpose, ForAllocation, Phase, New, Requesting}
 use Rattle.turn_client_laws.proofs.Machine.{Authenticating, Allocated, Closed, bind_step, connection_at, closed, transaction_ended, fail_all, purposes_of, Challenged, Fatal, Unrelated, answers_one}
 use Rattle.turn_client_laws.proofs.Machine.{challenge_in, class_in, judgement_of, challenge_step, message_step, wrong_step, connection_gone, fresh_id, request_for, phase_after, retried}
 use Rattle.turn_client_laws.proofs.Machine.{state_after_retry, with_held, Has, has-filter}
@@ -137,13 +137,13 @@ module _ (message : List ℕ) (now : ℕ) (s : State) (order : AllocatesInOrder 
         | inl old ↦ signed x old
         | inr (purpose, answers, made) ↦
             let is = for-allocation (id_of message) s purpose order (rw e tt) (contains-has purpose (purposes_of (id_of message) s) answers) in
-            made-signed purpose now s t x is made phase held
+            made-signed purpose (waits_from now s) s t x is made phase held
       ])
 
   -- the first one ends as it is made again, and then nothing else is outstanding
   retried-signs : (id : ℕ) (purpose : Purpose) (d : Challenge) (u : State) → IsOfOneId s.transactions → is_outstanding id s.transactions ≡ true → purpose ≡ ForAllocation → u.config ≡ s.config
       → u.held ≡ Some d
-      → AreSigned s.config (Some d) (without_transaction id s.transactions ++ first_sent (fresh_id s) s.remote now (request_for u purpose (fresh_id s)) ∷ [])
+      → AreSigned s.config (Some d) (without_transaction id s.transactions ++ first_sent (fresh_id s) s.remote (waits_from now s) (request_for u purpose (fresh_id s)) ∷ [])
   retried-signs id purpose d u one outstanding is same held x there = elim (has-last x (without_transaction id s.transactions) _ there) [
     | inl left ↦
         let (before, other) = has-filter (λ (z : Transaction). not (eqb z.id id)) x s.transactions left in

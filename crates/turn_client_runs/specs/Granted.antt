@@ -35,7 +35,7 @@ use Rattle.turn_client_laws.specs.LawsGranted.{WasActive}
 use Rattle.turn_client_laws.specs.LawsHandled.{IsDoneBy, IsOverControl, IsOverWaiting}
 use Rattle.turn_client_laws.specs.LawsReplies.{IsAwaited, IsNotAwaited}
 use Rattle.turn_client_laws.specs.LawsRequests.{AsksFor, IsListedFor, IsMade}
-use Rattle.turn_client_api.specs.Requests.{fresh_id, request_for}
+use Rattle.turn_client_api.specs.Requests.{fresh_id, request_for, waits_from}
 use Rattle.turn_client_runs.specs.Received.{HasArrived}
 
 -- ---- what a reply grants
@@ -140,7 +140,7 @@ ComesIn _ one = ⊥
 -- Between these two states a request for the purpose was made, or one for a channel that is requested with
 -- the permission: under this ID, which was the next one, to the server, and with the bytes that request it.
 abbrev pub IsAsked : ℕ → Purpose → ℕ → State → State → Type 0
-IsAsked id p now s t = (request : Purpose) × IsListedFor request p × IsMade request now s t × (id ≡ fresh_id s)
+IsAsked id p now s t = (request : Purpose) × IsListedFor request p × IsMade request (waits_from now s) s t × (id ≡ fresh_id s)
 
 -- it was made by this input, between the states just before and just after it
 abbrev pub IsRequestedByInput : ℕ → Purpose → Input → Type 0

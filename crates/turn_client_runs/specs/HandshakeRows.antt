@@ -1,5 +1,5 @@
 -- A worked handshake: a new client, and a server that challenges it and then allocates an address.
-use Rattle.std.specs.Prelude.{◌≡◌, ℕ, List, [], ◌∷◌, None}
+use Rattle.std.specs.Prelude.{◌≡◌, ℕ, List, [], ◌∷◌, None, false}
 use Rattle.std.specs.declared.net.socket_addr.SocketAddr.{SocketAddr}
 use Rattle.turn_stun.specs.XorAddress.{xor_value}
 use Rattle.turn_stun.specs.declared.message.header.MessageClass.TheVariants.{Success, Error}
@@ -54,6 +54,7 @@ new_client local remote config seed = initial Udp local remote (record config {
   request_cadence = default_request_cadence;
   keepalive = None;
   refresh_ahead = default_refresh_ahead;
+  timed_from_send = false;
 }) seed
 
 -- the challenge comes 100 ms after the first request, and the second request is sent at once

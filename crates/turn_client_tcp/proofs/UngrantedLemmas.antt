@@ -65,6 +65,7 @@ Stays-KeepsEdits = record {
     ends = λ s none. (λ h. λ u. absurd u, Keeps-KeepsEdits.ends s none);
     finishes = λ id s. (λ h. h, keeps-same s);
     resends = λ id now s. (λ h. h, keeps-same s);
+    starts = λ id now s. (λ h. h, keeps-same s);
   };
   asks = λ id text purposes now s begun askable spelled. (λ h. h, keeps-same s);
   unlists = λ which s. (λ h. h, keeps-same s);

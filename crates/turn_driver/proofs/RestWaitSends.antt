@@ -1,16 +1,16 @@
 -- A client that sends a packet has less left to do, if no request times out when it is sent.
 use Rattle.turn_client_laws.proofs.Common.{◌≡◌, ◌∙◌, ℕ, ◌^◌, ◌<◌, ◌≤◌, max, Bool, true, false, cond, not, ◌&&◌, leb, List, [], ◌∷◌, Option, Some, None, arith, inl, inr, length, refl, subst, sym}
-use Rattle.turn_client_laws.proofs.Common.{IfSome, drop, map, nat_le, option_to_list, slice_get, list_any, option_map_or, and_parts, cases_Bool, eq-eqb, leb-true, cond_some, none-some}
+use Rattle.turn_client_laws.proofs.Common.{IfSome, cases_lt, drop, map, nat_le, option_to_list, slice_get, list_any, option_map_or, and_parts, cases_Bool, eq-eqb, leb-true, cond_some, none-some}
 use Rattle.turn_client_laws.proofs.Machine.{Transmit, due, first_sent, is_due, resent, transaction_timeout, wait_at, Transaction, timers_of, has_allocation_in_use, is_paused, is_refreshable}
 use Rattle.turn_client_laws.proofs.Machine.{keepalive_times, pause_end, refresh_time, refresh_time_by_kind, family_of, has_request, is_for, asked_lifetime, binding_indication, fresh_id, id_used}
-use Rattle.turn_client_laws.proofs.Machine.{request_for, to_server, State, agent_of, later_by, idle_step, is_refresh_due, keepalive_step, next_refresh, queue_step, refresh_purpose, refresh_step}
+use Rattle.turn_client_laws.proofs.Machine.{request_for, to_server, State, agent_of, later_by, idle_step, is_refresh_due, keepalive_step, next_refresh, begun_by, front_sent, id_in_header, waits_begun, queue_step, refresh_purpose, refresh_step}
 use Rattle.turn_client_laws.proofs.Machine.{reply_step, sent, sent_at_once, transmit_step, Grant, Allocation, Channel, Permission, Active, Purpose, ForChannel, ForPermission, ForRefresh, Phase, New}
 use Rattle.turn_client_laws.proofs.Machine.{Requesting, Authenticating, Allocated, Closed, Queued, Has, has-found}
 use Rattle.turn_client_laws.proofs.Laws.{same_ip-same, same_family-self}
 use Rattle.std.specs.Prelude.{option_and_then}
 use Rattle.turn_client_runs.proofs.LastingTransmits.{IsNext, next-of}
 use Rattle.turn_driver.proofs.RestSends.{reply-shorter}
-use Rattle.turn_driver.proofs.RestWaits.{asked-fewer, is_over, left_to_await, may_keep, not-over, over-append, resent-fewer}
+use Rattle.turn_driver.proofs.RestWaits.{asked-fewer, is_over, left_to_await, begun-le, may_keep, not-over, over, over-append, resent-fewer}
 use Rattle.turn_driver.proofs.RestWeights.{GetsOn}
 
 -- ---- what keeps the path alive
@@ -120,31 +120,47 @@ module _ (now : ℕ) (s : State) (range : now ≤ 2 ^ 62) (waits : (place : ℕ)
   idles Allocated e packet f = refreshes packet f
   idles Closed e packet f = cc
 
-  queues : (q : Queued) → slice_get s.queue 0 ≡ Some q → GetsOn (left_to_await now) s (sent now (record s { queue = drop 1 s.queue }))
-  queues q e = elim (cases_Bool (list_any (λ time. nat_le time now) (keepalive_times s))) [
-    | inl f ↦
-        let one : may_keep now s ≡ 1 = rw f refl in
-        inr (refl, inr (refl, inr (refl, inr (refl, inr (refl, inl (omega (arith, one, zero)))))))
-    | inr f ↦
-        let none : may_keep now s ≡ 0 = rw f refl in
-        let less = shorter s.queue e in
-        inr (refl, inr (refl, inr (refl, inr (refl, inr (refl, inr (zero ∙ sym none, inl (omega (arith, less))))))))
+  -- the first copy of a queued request is given out, and its waits may begin
+  queues : (q : Queued) → slice_get s.queue 0 ≡ Some q → (xs : List Transaction) → over (timers_of s.config) s.transport now xs ≤ over (timers_of s.config) s.transport now s.transactions
+      → GetsOn (left_to_await now) s (sent now (record s { queue = drop 1 s.queue; transactions = xs }))
+  queues q e xs fewer = elim (cases_lt (over (timers_of s.config) s.transport now xs) (over (timers_of s.config) s.transport now s.transactions)) [
+    | inl less ↦ inr (refl, inr (refl, inl less))
+    | inr most ↦
+        let same : over (timers_of s.config) s.transport now xs ≡ over (timers_of s.config) s.transport now s.transactions = omega (arith, fewer, most) in
+        elim (cases_Bool (list_any (λ time. nat_le time now) (keepalive_times s))) [
+          | inl f ↦
+              let one : may_keep now s ≡ 1 = rw f refl in
+              inr (refl, inr (refl, inr (same, inr (refl, inr (refl, inl (omega (arith, one, zero)))))))
+          | inr f ↦
+              let none : may_keep now s ≡ 0 = rw f refl in
+              let less = shorter s.queue e in
+              inr (refl, inr (refl, inr (same, inr (refl, inr (refl, inr (zero ∙ sym none, inl (omega (arith, less))))))))
+        ]
   ]
     where
-      zero : may_keep now (sent now (record s { queue = drop 1 s.queue })) ≡ 0
-      zero = silent now (sent now (record s { queue = drop 1 s.queue })) refl some range
+      zero : may_keep now (sent now (record s { queue = drop 1 s.queue; transactions = xs })) ≡ 0
+      zero = silent now (sent now (record s { queue = drop 1 s.queue; transactions = xs })) refl some range
 
       shorter : (queue : List Queued) → slice_get queue 0 ≡ Some q → length (drop 1 queue) < length queue
       shorter [] f = cc
       shorter (r ∷ queue) f = omega arith
 
+  begins : (q : Queued) → over (timers_of s.config) s.transport now (begun_by now q s) ≤ over (timers_of s.config) s.transport now s.transactions
+  begins q = by (s.config.timed_from_send && q.is_request) (id_in_header q.packet.payload)
+    where
+      by : (b : Bool) (o : Option ℕ) → over (timers_of s.config) s.transport now (cond b (option_map_or (λ id. waits_begun id now s.transactions) o s.transactions) s.transactions)
+          ≤ over (timers_of s.config) s.transport now s.transactions
+      by true (Some id) = begun-le (timers_of s.config) s.transport now range waits id s.transactions
+      by true None = omega arith
+      by false o = omega arith
+
   pub transmit-awaits : Sends (transmit_step now s)
   transmit-awaits = by (due (agent_of s) now) refl
     where
       queued : (o : Option Queued) → slice_get s.queue 0 ≡ o
-          → Sends (option_map_or (λ q. (Some q.packet, sent now (record s { queue = drop 1 s.queue }))) o (idle_step s.phase now s))
+          → Sends (option_map_or (λ q. (Some q.packet, front_sent now q s)) o (idle_step s.phase now s))
       queued None e packet f = idles s.phase refl packet f
-      queued (Some q) e packet f = queues q e
+      queued (Some q) e packet f = queues q e (begun_by now q s) (begins q)
 
       paused : (b : Bool) → Sends (cond b (reply_step s) (queue_step now s))
       paused true = replies

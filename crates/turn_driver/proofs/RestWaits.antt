@@ -2,7 +2,7 @@
 -- changes gets less.
 use Rattle.turn_client_laws.proofs.Common.{◌≡◌, ◌∙◌, ℕ, ◌+◌, ◌^◌, ◌<◌, ◌≤◌, Bool, true, false, cond, eqb, ◌||◌, List, [], ◌∷◌, ◌++◌, ap, arith, filter, inl, inr, refl, sym, nat_le, list_any}
 use Rattle.turn_client_laws.proofs.Common.{cases_Bool, eq-eqb, leb-true}
-use Rattle.turn_client_laws.proofs.Machine.{TransportType, resent, transaction_timeout, Timers, wait_at, Transaction, timers_of, keepalive_times, is_for, State, Grant, Listing, Phase, New, Has}
+use Rattle.turn_client_laws.proofs.Machine.{TransportType, resent, waiting_from, waits_begun, transaction_timeout, Timers, wait_at, Transaction, timers_of, keepalive_times, is_for, State, Grant, Listing, Phase, New, Has}
 use Rattle.turn_client_laws.proofs.Laws.{weight}
 use Rattle.turn_driver.proofs.RestWeights.{load, queued}
 
@@ -59,6 +59,19 @@ module _ (timers : Timers) (transport : TransportType) (now : ℕ) (range : now 
       by : (b : Bool) → over timers transport now (resent id now xs) ≤ over timers transport now xs
           → is_over timers transport now (cond b again x) + over timers transport now (resent id now xs) ≤ is_over timers transport now x + over timers transport now xs
       by true later = let zero = not-over timers transport now again refl (waits (x.resends + 1)) range in omega (arith, zero, later)
+      by false later = omega (arith, later)
+
+  -- nor does one that was just sent for the first time
+  pub begun-le : (id : ℕ) (xs : List Transaction) → over timers transport now (waits_begun id now xs) ≤ over timers transport now xs
+  begun-le id [] = omega arith
+  begun-le id (x ∷ xs) = by (eqb x.id id) (begun-le id xs)
+    where
+      begun : Transaction
+      begun = waiting_from now x
+
+      by : (b : Bool) → over timers transport now (waits_begun id now xs) ≤ over timers transport now xs
+          → is_over timers transport now (cond b begun x) + over timers transport now (waits_begun id now xs) ≤ is_over timers transport now x + over timers transport now xs
+      by true later = let zero = not-over timers transport now begun refl (waits x.resends) range in omega (arith, zero, later)
       by false later = omega (arith, later)
 
   pub resent-fewer : (x : Transaction) (xs : List Transaction) → Has x xs → is_over timers transport now x ≡ 1 → over timers transport now (resent x.id now xs) < over timers transport now xs

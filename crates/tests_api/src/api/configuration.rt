@@ -46,6 +46,7 @@ fn a_new_configuration_asks_for_ipv4_over_udp(rt: HostRuntime) {
     same(&rt, config.request_cadence(), Duration::from_millis(50));
     same(&rt, config.keepalive(), None);
     same(&rt, config.refresh_ahead(), Duration::from_secs(60));
+    same(&rt, config.requests_timed_from_send(), false);
 }
 
 /// Sets each setting to another value than its default.
@@ -108,6 +109,17 @@ fn a_refresh_is_at_least_a_second_ahead(rt: HostRuntime) {
     let same_ahead = copy(&rt, rt.alloc(), &first);
     same(&rt, same_ahead.refresh_ahead(), Duration::from_secs(120));
     check(&rt, *same_ahead == *first);
+    check(&rt, *other != *first);
+}
+
+#[test]
+fn requests_are_timed_from_their_sends_if_set_so(rt: HostRuntime) {
+    let mut first = boxed_config(rt.alloc()).expect(&rt, "memory");
+    let other = copy(&rt, rt.alloc(), &first);
+    first.set_requests_timed_from_send(true);
+    let same_switch = copy(&rt, rt.alloc(), &first);
+    same(&rt, same_switch.requests_timed_from_send(), true);
+    check(&rt, *same_switch == *first);
     check(&rt, *other != *first);
 }
 

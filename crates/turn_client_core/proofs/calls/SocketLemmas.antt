@@ -1,7 +1,7 @@
 -- Data connections that the caller opens.
 use Rattle.turn_client_laws.proofs.Common.{◌≡◌, ◌∙◌, ℕ, true, List, [], ◌∷◌, ap, refl, append-nil, Option, SocketAddr}
 use Rattle.turn_client_laws.proofs.Machine.{answered_with, socket_opened, accepted_reply, request_started, fresh_id, queued, request_for, State, Origin, OwnConnect, ServerIndication, ServerRequest}
-use Rattle.turn_client_laws.proofs.Machine.{ForBind}
+use Rattle.turn_client_laws.proofs.Machine.{waits_from, ForBind}
 use Rattle.turn_client_grants.specs.Asked.{Asks, with_opened}
 use Rattle.turn_client_grants.specs.Ledger.{Ledger, with_ledger}
 use Rattle.turn_client_core.specs.Apart.{with_streams_of}
@@ -20,11 +20,11 @@ opened-is (ServerRequest request) id peer local now s = refl
 opened-is ServerIndication id peer local now s = rw (append-nil s.queue) refl
 
 -- the ledger was this client's; the stream is left to who holds the streams
-pub opens-is : (s : State) (was ledger : Ledger) (reply : Option (List ℕ)) (id request : ℕ) (peer local : SocketAddr) (text : List ℕ) (now : ℕ) → with_ledger was s ≡ s
-    → Asks request (ForBind local peer id ∷ []) now (with_opened id peer local now) was ledger s text
-    → text ≡ request_for s (ForBind local peer id) request → request ≡ fresh_id s
-    → with_ledger ledger (queued true local text (with_reply reply (request_started request text (ForBind local peer id ∷ []) now s)))
+pub opens-is : (s : State) (was ledger : Ledger) (reply : Option (List ℕ)) (id request : ℕ) (peer local : SocketAddr) (text : List ℕ) (now waits : ℕ) → with_ledger was s ≡ s
+    → Asks request (ForBind local peer id ∷ []) waits (with_opened id peer local now) was ledger s text
+    → text ≡ request_for s (ForBind local peer id) request → request ≡ fresh_id s → waits ≡ waits_from now s
+    → with_ledger ledger (queued true local text (with_reply reply (request_started request text (ForBind local peer id ∷ []) waits s)))
     ≡ with_streams_of s (opened_with reply id peer local now s)
-opens-is s was ledger reply id request peer local text now same made is next =
-    ap (λ t. queued true local text (with_reply reply t)) (made ∙ ap (λ t. request_started request text (ForBind local peer id ∷ []) now (with_opened id peer local now t)) same)
-    ∙ rw (is, next) refl
+opens-is s was ledger reply id request peer local text now waits same made is next begins =
+    ap (λ t. queued true local text (with_reply reply t)) (made ∙ ap (λ t. request_started request text (ForBind local peer id ∷ []) waits (with_opened id peer local now t)) same)
+    ∙ rw (is, next, begins) refl

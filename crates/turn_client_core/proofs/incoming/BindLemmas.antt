@@ -1,7 +1,7 @@
 -- Data connections that are bound, or whose binding fails (RFC 6062, section 4.3).
 use Rattle.turn_client_laws.proofs.Common.{◌≡◌, ℕ, Bool, true, false, List, [], ◌∷◌, Some, None, refl, inl, inr, list_any, find, is_some, SocketAddr}
 use Rattle.turn_client_laws.proofs.Machine.{Challenge, bind_again, bind_answered, not_bound, purposes_of, Judgement, bind_judgement, is_bind_of, request_started, fresh_id, queued, request_for}
-use Rattle.turn_client_laws.proofs.Machine.{sent_from, with_held, State, DataConnection, Purpose, cases_Option}
+use Rattle.turn_client_laws.proofs.Machine.{sent_from, waits_from, with_held, State, DataConnection, Purpose, cases_Option}
 use Rattle.turn_client_laws.proofs.Laws.{binds_if}
 use Rattle.turn_client_grants.specs.Asked.{bind_retried}
 use Rattle.turn_client_core.specs.Apart.{with_streams_of}
@@ -20,10 +20,10 @@ found_any p (x ∷ xs) = by (p x) refl (found_any p xs)
 
 -- ---- a challenge is answered
 
-pub bind-asked : (s : State) (d : DataConnection) (id fresh : ℕ) (from : SocketAddr) (text : List ℕ) (purpose : Purpose) (challenge : Challenge) (now : ℕ)
-    → find (is_bind_of d.local) (purposes_of id s) ≡ Some purpose → text ≡ request_for (with_held challenge s) purpose fresh → from ≡ sent_from s purpose → fresh ≡ fresh_id s
-    → queued true from text (request_started fresh text (purpose ∷ []) now (bind_retried d.local now (with_held challenge s))) ≡ bind_again d id challenge now s
-bind-asked s d id fresh from text purpose challenge now found is sent next = rw (found, is, sent, next) refl
+pub bind-asked : (s : State) (d : DataConnection) (id fresh : ℕ) (from : SocketAddr) (text : List ℕ) (purpose : Purpose) (challenge : Challenge) (now waits : ℕ)
+    → find (is_bind_of d.local) (purposes_of id s) ≡ Some purpose → text ≡ request_for (with_held challenge s) purpose fresh → from ≡ sent_from s purpose → fresh ≡ fresh_id s → waits ≡ waits_from now s
+    → queued true from text (request_started fresh text (purpose ∷ []) waits (bind_retried d.local now (with_held challenge s))) ≡ bind_again d id challenge now s
+bind-asked s d id fresh from text purpose challenge now waits found is sent next begins = rw (found, is, sent, next, begins) refl
 
 -- the stream stays as it was
 pub again-streams : (d : DataConnection) (id : ℕ) (challenge : Challenge) (now : ℕ) (s : State)

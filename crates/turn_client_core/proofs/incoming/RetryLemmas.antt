@@ -2,7 +2,7 @@
 use Rattle.turn_client_laws.proofs.Common.{◌≡◌, ◌∙◌, ℕ, Bool, true, false, List, [], ◌∷◌, ◌++◌, Some, None, ap, cond, refl, sym, map, eqb-true, false_from_ne_true, lt-ltb, or_parts, list_any, filter}
 use Rattle.turn_client_laws.proofs.Common.{SocketAddr}
 use Rattle.turn_client_laws.proofs.Machine.{is_outstanding, without_transaction, Transaction, Challenge, transaction_ended, purposes_of, Handled, Ignored, challenge_step, request_started, fresh_id}
-use Rattle.turn_client_laws.proofs.Machine.{queued, request_for, requested, phase_after, retried, state_after_retry, with_held, State, Listing, Purpose, ForAllocation, id_of}
+use Rattle.turn_client_laws.proofs.Machine.{queued, request_for, requested, phase_after, retried, state_after_retry, waits_from, with_held, State, Listing, Purpose, ForAllocation, id_of}
 use Rattle.std.specs.Prelude.{◌==◌, ◌+◌, ◌<◌}
 
 -- the old request is no longer outstanding, whether it ends before the new one is made or after it
@@ -20,10 +20,10 @@ without-other id t (u ∷ others) other = by (u.id == id) refl (without-other id
 abbrev pub taken : State → ℕ → Challenge → State
 taken s id challenge = with_held challenge (record (transaction_ended id s) { phase = phase_after s.phase; challenges = s.challenges + 1 })
 
-pub again-is : (s : State) (id fresh : ℕ) (from : SocketAddr) (text : List ℕ) (purpose : Purpose) (challenge : Challenge) (now : ℕ) → text ≡ request_for (taken s id challenge) purpose fresh
-    → from ≡ s.local → fresh ≡ fresh_id s
-    → queued true from text (request_started fresh text (purposes_of id s) now (taken s id challenge)) ≡ state_after_retry s id purpose challenge now
-again-is s id fresh from text purpose challenge now is sent next = rw (is, sent, next) refl
+pub again-is : (s : State) (id fresh : ℕ) (from : SocketAddr) (text : List ℕ) (purpose : Purpose) (challenge : Challenge) (now waits : ℕ) → text ≡ request_for (taken s id challenge) purpose fresh
+    → from ≡ s.local → fresh ≡ fresh_id s → waits ≡ waits_from now s
+    → queued true from text (request_started fresh text (purposes_of id s) waits (taken s id challenge)) ≡ state_after_retry s id purpose challenge now
+again-is s id fresh from text purpose challenge now waits is sent next begins = rw (is, sent, next, begins) refl
 
 -- ---- the new ID is another one
 
@@ -69,9 +69,9 @@ unknown-is s message challenge now few found = rw (lt-ltb s.challenges s.config.
 
 -- ---- an ALLOCATE is made again
 
-pub first-is : (s : State) (fresh : ℕ) (from : SocketAddr) (text : List ℕ) (now : ℕ) → text ≡ request_for s ForAllocation fresh → from ≡ s.local
-    → queued true from text (request_started fresh text (ForAllocation ∷ []) now s) ≡ requested fresh ForAllocation now s
-first-is s fresh from text now is sent = rw (is, sent) refl
+pub first-is : (s : State) (fresh : ℕ) (from : SocketAddr) (text : List ℕ) (now waits : ℕ) → text ≡ request_for s ForAllocation fresh → from ≡ s.local → waits ≡ waits_from now s
+    → queued true from text (request_started fresh text (ForAllocation ∷ []) waits s) ≡ requested fresh ForAllocation now s
+first-is s fresh from text now waits is sent begins = rw (is, sent, begins) refl
 
 -- ---- the purposes of a request, by the table
 

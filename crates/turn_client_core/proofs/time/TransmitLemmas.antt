@@ -34,21 +34,21 @@ resends-first now s o times = by (find (is_due o.timers o.transport now) o.trans
     by (Some t) e = rw (← times, e) refl
 
 -- then the first queued packet
-front-first : (now : ℕ) (s : State) (o : Outgoing) → sent_or (idle_step s.phase now) s (front_step now o) ≡ queue_step now (with_outbox o s)
+front-first : (now : ℕ) (s : State) (o : Outgoing) → sent_or (idle_step s.phase now) s (front_step s.config.timed_from_send now o) ≡ queue_step now (with_outbox o s)
 front-first now s o = by (slice_get o.queue 0) refl
   where
-    by : (found : Option Queued) → slice_get o.queue 0 ≡ found → sent_or (idle_step s.phase now) s (front_step now o) ≡ queue_step now (with_outbox o s)
+    by : (found : Option Queued) → slice_get o.queue 0 ≡ found → sent_or (idle_step s.phase now) s (front_step s.config.timed_from_send now o) ≡ queue_step now (with_outbox o s)
     by None e = rw e refl
     by (Some q) e = rw e refl
 
 -- what is taken of the queue is sent next, within the pause or not
 pub queued-some : (paused : Bool) (now : ℕ) (s : State) (o p : Outgoing) (packet : Transmit (List ℕ)) → is_paused now (with_outbox o s) ≡ paused
-    → ◌≡◌ {A = Sent} (Some packet, p) (if paused then first_reply_step o else front_step now o) → ◌≡◌ {A = Packet × State} (Some packet, with_outbox p s) (waiting_step now (with_outbox o s))
+    → ◌≡◌ {A = Sent} (Some packet, p) (if paused then first_reply_step o else front_step s.config.timed_from_send now o) → ◌≡◌ {A = Packet × State} (Some packet, with_outbox p s) (waiting_step now (with_outbox o s))
 queued-some true now s o p packet is step = rw is (ap (λ (r : Sent). (r.0, with_outbox r.1 s)) step)
 queued-some false now s o p packet is step = rw is (ap (sent_or (idle_step s.phase now) s) step ∙ front-first now s o)
 
 -- with nothing queued, and outside the pause, what the client has to request
-pub queued-none : (now : ℕ) (s : State) (o p : Outgoing) → is_paused now (with_outbox o s) ≡ false → ◌≡◌ {A = Sent} (None, p) (front_step now o)
+pub queued-none : (now : ℕ) (s : State) (o p : Outgoing) → is_paused now (with_outbox o s) ≡ false → ◌≡◌ {A = Sent} (None, p) (front_step s.config.timed_from_send now o)
     → idle_step s.phase now (with_outbox p s) ≡ waiting_step now (with_outbox o s)
 queued-none now s o p is step = rw is (ap (sent_or (idle_step s.phase now) s) step ∙ front-first now s o)
 
@@ -106,17 +106,17 @@ resend-none now o after is = by (find (is_due o.timers o.transport now) o.transa
     by (Some t) e is = let clash : None ≡ Some (record (packet_of o o.local t.request) { to = t.to }) = ap (λ (r : Sent). r.0) (rw e at is) in cc
 
 -- if no packet is queued, nothing changes
-pub front-same : (now : ℕ) (o after : Outgoing) → ◌≡◌ {A = Sent} (None, after) (front_step now o) → after ≡ o
-front-same now o after is = by (slice_get o.queue 0) refl is
+pub front-same : (timed : Bool) (now : ℕ) (o after : Outgoing) → ◌≡◌ {A = Sent} (None, after) (front_step timed now o) → after ≡ o
+front-same timed now o after is = by (slice_get o.queue 0) refl is
   where
-    by : (found : Option Queued) → slice_get o.queue 0 ≡ found → ◌≡◌ {A = Sent} (None, after) (front_step now o) → after ≡ o
+    by : (found : Option Queued) → slice_get o.queue 0 ≡ found → ◌≡◌ {A = Sent} (None, after) (front_step timed now o) → after ≡ o
     by None e is = ap (λ (r : Sent). r.1) (rw e at is)
     by (Some q) e is = let clash : None ≡ Some q.packet = ap (λ (r : Sent). r.0) (rw e at is) in cc
 
 -- no packet is queued
-pub front-none : (now : ℕ) (o after : Outgoing) → ◌≡◌ {A = Sent} (None, after) (front_step now o) → o.queue ≡ []
-front-none now o after is = by o.queue refl is
+pub front-none : (timed : Bool) (now : ℕ) (o after : Outgoing) → ◌≡◌ {A = Sent} (None, after) (front_step timed now o) → o.queue ≡ []
+front-none timed now o after is = by o.queue refl is
   where
-    by : (queue : List Queued) → o.queue ≡ queue → ◌≡◌ {A = Sent} (None, after) (front_step now o) → o.queue ≡ []
+    by : (queue : List Queued) → o.queue ≡ queue → ◌≡◌ {A = Sent} (None, after) (front_step timed now o) → o.queue ≡ []
     by [] e is = e
     by (q ∷ later) e is = let clash : None ≡ Some q.packet = ap (λ (r : Sent). r.0) (rw e at is) in cc

@@ -1,13 +1,15 @@
 //! What is sent next (RFC 8489, section 6.2).
 
-ghost use Rattle.std.specs.Prelude.{◌≡◌, if◌then◌else◌, IfOk, IsSome, OnErr};
+ghost use Rattle.std.specs.Prelude.{◌≡◌, if◌then◌else◌, true, IfOk, IsSome, OnErr};
 ghost use Rattle.turn_client_core.specs.Outgoing.{with_room};
-ghost use Rattle.turn_client_core.specs.Sending.{first_reply_step, front_step, resend_step};
+ghost use Rattle.turn_client_core.specs.Sending.{begun_with, first_reply_step, front_step, resend_step};
 
 use crate::outbox::Outbox;
 use std::alloc::AllocError;
+use turn_client_api::Queued;
 use turn_stun::data::Data;
 use turn_stun::instant::Instant;
+use turn_stun::message::header::MessageHeader;
 use turn_stun::transport::Transmit;
 
 impl Outbox {
@@ -32,16 +34,38 @@ impl Outbox {
     }
 
     /// Removes and returns the first queued packet, or within the pause the first reply, which does not
-    /// extend it: the pause applies to requests (our choice).
-    pub(crate) fn take_queued(&mut self, is_paused: bool, now: Instant) -> Option<Transmit<Data>>
-        ensures { (result, with_room self.old.room self.new) ≡ (if is_paused then first_reply_step self.old else front_step now self.old) }
+    /// extend it: the pause applies to requests (our choice). If requests are timed from when they are
+    /// sent, the waits of one that is returned begin now.
+    pub(crate) fn take_queued(
+        &mut self,
+        is_paused: bool,
+        timed_from_send: bool,
+        now: Instant,
+    ) -> Option<Transmit<Data>>
+        ensures { (result, with_room self.old.room self.new)
+            ≡ (if is_paused then first_reply_step self.old else front_step timed_from_send now self.old) }
     {
         if is_paused {
             return self.queue.take_reply();
         }
         let queued = self.queue.pop_front()?;
+        if timed_from_send {
+            self.begin_waits(&queued, now);
+        }
         self.last_send = Some(now);
         Some(queued.packet)
+    }
+
+    /// Begins the waits of this request, which is sent now. A reply has none.
+    fn begin_waits(&mut self, queued: &Queued, now: Instant)
+        ensures { self.new ≡ record self.old { transactions = begun_with true now queued.now self.old } }
+    {
+        if !queued.is_request {
+            return;
+        }
+        if let Ok(header) = MessageHeader::from_bytes(queued.packet.payload.as_bytes()) {
+            self.agent.begin_waits(header.transaction_id, now);
+        }
     }
 
     /// Restarts the pause: a request was sent.

@@ -186,10 +186,12 @@ impl TurnClientProtocol {
         ensures err { OnErr result (self.new ≡ self.old) }
     {
         let request = self.fresh_id();
+        let waits_from = self.waits_from(now);
         let text = self.text_for(&Purpose::ForBind(local, peer, id), request)?;
         // Keeps the room for the failure events of families that are still requested.
         self.ledger.reserve(1, 2, self.families.len(), 1)?;
-        self.outbox.ask_over(reply, request, text, local, now)?;
+        self.outbox
+            .ask_over(reply, request, text, local, waits_from)?;
         self.ledger.opened(id, peer, local, request, now);
         Ok(())
     }

@@ -42,9 +42,10 @@ impl TurnClientProtocol {
     {
         let id = self.fresh_id();
         let from = self.local_addr();
+        let waits_from = self.waits_from(now);
         let text = delete_request(self.alloc, &self.auth, id)?;
         self.ledger.reserve(0, 2, 0, 0)?;
-        self.outbox.ask(id, text, from, now)?;
+        self.outbox.ask(id, text, from, waits_from)?;
         self.ledger.queue_delete(id, now);
         Ok(())
     }

@@ -4,7 +4,7 @@ ghost use Rattle.std.specs.List.{list_all, list_any, range_with_len};
 ghost use Rattle.std.specs.Prelude.{◌≡◌, ◌↔◌, ◌<◌, ◌+◌, ◌%◌, ◌^◌, ◌==◌, false, find, map, not, true, IfOk, IsSome, IsTrue, OnErr, OnOk};
 ghost use Rattle.turn_agent.specs.Agent.{is_outstanding};
 ghost use Rattle.turn_client_api.specs.Calls.{is_allocated};
-ghost use Rattle.turn_client_api.specs.Requests.{fresh_id, is_taken, request_for, sent_from};
+ghost use Rattle.turn_client_api.specs.Requests.{fresh_id, is_taken, request_for, sent_from, waits_from};
 ghost use Rattle.turn_client_core.specs.Asked.{asks};
 ghost use Rattle.turn_client_grants.specs.Table.{are_new, is_numbered};
 ghost use Rattle.turn_client_grants.specs.GrantFilter.{purposes_in};
@@ -80,6 +80,18 @@ impl TurnClientProtocol {
         }
     }
 
+    /// From when on a request waits for its response that is made and queued now: from now on, or if
+    /// requests are timed from when they are sent, from then on, and until then no time is as late as
+    /// the one that is returned.
+    pub(crate) fn waits_from(&self, now: Instant) -> Instant
+        ensures { result ≡ waits_from now self.now }
+    {
+        if self.config.requests_timed_from_send() {
+            return Instant::from_nanos(u64::MAX);
+        }
+        now
+    }
+
     /// The signed request with this ID for a purpose.
     ///
     /// # Errors
@@ -121,12 +133,13 @@ impl TurnClientProtocol {
     {
         let id = self.fresh_id();
         let from = self.sent_from(purpose);
+        let waits_from = self.waits_from(now);
         let text = self.text_for(purpose, id)?;
         // Keeps the room for the failure events of families that are still requested.
         let closes = connection_count(grants);
         self.ledger
             .reserve(grants.len(), 2, self.families.len(), closes)?;
-        self.outbox.ask(id, text, from, now)?;
+        self.outbox.ask(id, text, from, waits_from)?;
         self.ledger.ask(id, grants, purposes);
         Ok(())
     }

@@ -125,7 +125,15 @@ impl TurnClientProtocol {
             fresh,
         )?;
         let from = self.local_addr();
-        let challenge = queue_again(&mut self.ledger, &mut self.outbox, fresh, signed, from, now)?;
+        let waits_from = self.waits_from(now);
+        let challenge = queue_again(
+            &mut self.ledger,
+            &mut self.outbox,
+            fresh,
+            signed,
+            from,
+            waits_from,
+        )?;
         self.outbox.end(id);
         self.ledger.ask_again(id, fresh);
         self.auth.accept(challenge);
@@ -159,7 +167,8 @@ pub(crate) fn request_again(
 }
 
 /// Makes room for two listings, and queues a signed request with this ID, the next one, to be sent from
-/// this local address. Returns the challenge under which it is signed.
+/// this local address, and to wait for its response from that time on. Returns the challenge under which
+/// it is signed.
 ///
 /// # Errors
 ///
@@ -170,19 +179,19 @@ pub(crate) fn queue_again(
     id: TransactionId,
     signed: (ServerChallenge, Data),
     from: SocketAddr,
-    now: Instant,
+    waits_from: Instant,
 ) -> Result<ServerChallenge, AllocError>
     requires { is_outstanding id outbox.old.transactions ≡ false }
     ensures challenge { IfOk result (λ challenge. challenge ≡ signed.0) }
     ensures same { (s : State) → with_ledger ledger.new s ≡ with_ledger ledger.old s }
     ensures listing_room { OnOk result (2 ≤ ledger.new.listing_room) }
     ensures room { SameRoomBut 0 0 ledger.old ledger.new }
-    ensures ok { OnOk result (outbox.new ≡ with_room outbox.new.room (request_queued id from signed.1 now outbox.old)) }
+    ensures ok { OnOk result (outbox.new ≡ with_room outbox.new.room (request_queued id from signed.1 waits_from outbox.old)) }
     ensures err { OnErr result (outbox.new ≡ with_room outbox.new.room outbox.old) }
 {
     let (challenge, text) = signed;
     ledger.reserve(0, 2, 0, 0)?;
-    outbox.ask(id, text, from, now)?;
+    outbox.ask(id, text, from, waits_from)?;
     Ok(challenge)
 }
 

@@ -180,7 +180,15 @@ impl TurnClientProtocol {
             purpose,
             fresh,
         )?;
-        let challenge = queue_again(&mut self.ledger, &mut self.outbox, fresh, signed, from, now)?;
+        let waits_from = self.waits_from(now);
+        let challenge = queue_again(
+            &mut self.ledger,
+            &mut self.outbox,
+            fresh,
+            signed,
+            from,
+            waits_from,
+        )?;
         self.ledger
             .bind_again(connection.local, fresh, *purpose, now);
         self.auth.accept(challenge);

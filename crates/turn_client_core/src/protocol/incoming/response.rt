@@ -126,8 +126,9 @@ impl TurnClientProtocol {
             fresh,
         )?;
         let from = self.local_addr();
+        let waits_from = self.waits_from(now);
         self.ledger.reserve(0, 2, 1, 0)?;
-        self.outbox.ask(fresh, text, from, now)?;
+        self.outbox.ask(fresh, text, from, waits_from)?;
         self.outbox.end(message.transaction_id());
         let families = only_ipv6(self.alloc);
         self.families = families;

@@ -68,7 +68,8 @@ impl TurnClientProtocol {
         ensures wanted { OnErr result (self.old.queue ≡ []) }
     {
         let is_paused = self.is_paused(now);
-        if let Some(packet) = self.outbox.take_queued(is_paused, now) {
+        let timed_from_send = self.config.requests_timed_from_send();
+        if let Some(packet) = self.outbox.take_queued(is_paused, timed_from_send, now) {
             return Ok(Some(packet));
         }
         if is_paused {

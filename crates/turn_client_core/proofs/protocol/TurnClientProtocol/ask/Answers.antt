@@ -1,5 +1,5 @@
 use Rattle.turn_client_laws.proofs.Common.{◌∙◌, ap, sym}
-use Rattle.turn_client_laws.proofs.Machine.{with_more_grants, fresh_id, request_for, sent_from}
+use Rattle.turn_client_laws.proofs.Machine.{with_more_grants, fresh_id, request_for, sent_from, waits_from}
 use Rattle.turn_client_grants.specs.Ledger.{with_ledger}
 use Rattle.turn_client_grants.specs.GrantFilter.{purposes_in}
 use Rattle.turn_client_core.specs.Asked.{asks}
@@ -34,10 +34,12 @@ returns-clause-ok c =
     let id = c.fresh_id-id.result in
     let from = c.sent_from-from.result in
     let text = c.in_ok-text.text in
+    let waits = c.waits_from-waits_from.result in
     ap (λ o. with_ledger c.ask-2.new.self (with_outbox o s)) c.in_ok-ask.ensures.ok
-    ∙ (asked-is s c.reserve.new.self c.ask-2.new.self id from text purposes c.args.now (with_more_grants grants) (c.reserve.ensures.same s) (c.ask-2.ensures.state s text c.args.now)
-    ∙ (asks-is s id from text purpose purposes grants c.args.now
+    ∙ (asked-is s c.reserve.new.self c.ask-2.new.self id from text purposes waits (with_more_grants grants) (c.reserve.ensures.same s) (c.ask-2.ensures.state s text waits)
+    ∙ (asks-is s id from text purpose purposes grants c.args.now waits
     (c.in_ok-text.ensures ∙ ap (λ t. request_for t purpose id) (sym c.self.view_is))
     (c.sent_from-from.ensures ∙ ap (λ t. sent_from t purpose) (sym c.self.view_is))
     (c.fresh_id-id.ensures.id ∙ ap fresh_id (sym c.self.view_is))
+    (c.waits_from-waits_from.ensures ∙ ap (waits_from c.args.now) (sym c.self.view_is))
     ∙ ap (asks purpose purposes grants c.args.now) c.self.view_is))

@@ -1,5 +1,5 @@
 use Rattle.turn_client_laws.proofs.Common.{◌≡◌, ◌∙◌, false, true, ap, refl, subst, sym}
-use Rattle.turn_client_laws.proofs.Machine.{first_sent, without_transaction, MayTake, ClientAuth, with_challenge, purposes_of, request_started, id_used, fresh_id, queued, request_for}
+use Rattle.turn_client_laws.proofs.Machine.{waits_from, first_sent, without_transaction, MayTake, ClientAuth, with_challenge, purposes_of, request_started, id_used, fresh_id, queued, request_for}
 use Rattle.turn_client_laws.proofs.Machine.{state_after_retry, auth_of}
 use Rattle.std.specs.Prelude.{◌==◌}
 use Rattle.turn_client_requests.specs.RequestAttributes.{with_asked_families}
@@ -38,8 +38,9 @@ returns-clause-ok c =
     let given = c.args.challenge.now in
     let purpose = c.args.purpose.now in
     let now = c.args.now in
+    let waits = c.waits_from-waits_from.result in
     let t = taken s id given in
-    let new = first_sent fresh s.remote now text in
+    let new = first_sent fresh s.remote waits text in
     let own = sym (auth-is s c.self.inside.auth c.self.invariant.credentials c.self.invariant.supported c.self.invariant.anonymous refl) in
     let other : (fresh == id) ≡ false = asked-other id fresh c.args.self.now.listed purpose c.fresh_id-fresh.ensures.unlisted c.requires.asked in
     let all : with_asked_families c.transport.result c.as_slice.result.now t ≡ t = rw (c.transport.ensures, c.as_slice.ensures) refl in
@@ -48,6 +49,7 @@ returns-clause-ok c =
     (ap (λ o. with_ledger c.ask_again.new.self (with_outbox o t))
     (c.end.ensures ∙ ap (λ (o : Outgoing). record o { transactions = without_transaction id o.transactions }) c.in_ok-challenge.ensures.ok)
     ∙ (ap (λ ts. queued true from text (with_ledger c.ask_again.new.self (record (id_used t) { transactions = ts }))) (without-other id new s.transactions other)
-    ∙ (ap (queued true from text) (c.ask_again.ensures.state t text now ∙ ap (λ u. request_started fresh text (purposes_of id u) now u) (c.queue_again.ensures.same t))
-    ∙ (again-is s id fresh from text purpose given now written (c.local_addr-from.ensures ∙ ap (λ t. t.local) (sym c.self.view_is)) (c.fresh_id-fresh.ensures.id ∙ ap fresh_id (sym c.self.view_is))
+    ∙ (ap (queued true from text) (c.ask_again.ensures.state t text waits ∙ ap (λ u. request_started fresh text (purposes_of id u) waits u) (c.queue_again.ensures.same t))
+    ∙ (again-is s id fresh from text purpose given now waits written (c.local_addr-from.ensures ∙ ap (λ t. t.local) (sym c.self.view_is)) (c.fresh_id-fresh.ensures.id ∙ ap fresh_id (sym c.self.view_is))
+    (c.waits_from-waits_from.ensures ∙ ap (waits_from c.args.now) (sym c.self.view_is))
     ∙ ap (λ u. state_after_retry u id purpose given now) c.self.view_is))))

@@ -1,5 +1,5 @@
 use Rattle.turn_client_laws.proofs.Common.{◌≡◌, ◌∙◌, ap, refl, subst, sym, Some, find}
-use Rattle.turn_client_laws.proofs.Machine.{MayTake, ClientAuth, with_challenge, bind_again, purposes_of, is_bind_of, request_started, fresh_id, queued, request_for, sent_from, with_held, auth_of}
+use Rattle.turn_client_laws.proofs.Machine.{waits_from, MayTake, ClientAuth, with_challenge, bind_again, purposes_of, is_bind_of, request_started, fresh_id, queued, request_for, sent_from, with_held, auth_of}
 use Rattle.std.specs.Prelude.{◌∷◌, [], true}
 use Rattle.turn_client_requests.specs.RequestAttributes.{with_asked_families}
 use Rattle.turn_client_grants.specs.Asked.{bind_retried}
@@ -37,6 +37,7 @@ returns-clause-ok c = λ id asked.
     let given = c.args.challenge.now in
     let purpose = c.args.purpose.now in
     let now = c.args.now in
+    let waits = c.waits_from-waits_from.result in
     let t = with_held given s in
     let own = sym (auth-is s c.self.inside.auth c.self.invariant.credentials c.self.invariant.supported c.self.invariant.anonymous refl) in
     let all : with_asked_families c.transport.result c.as_slice.result.now t ≡ t = rw (c.transport.ensures, c.as_slice.ensures) refl in
@@ -45,6 +46,7 @@ returns-clause-ok c = λ id asked.
     let sent : from ≡ sent_from s purpose = c.sent_from-from.ensures ∙ ap (λ u. sent_from u purpose) (sym c.self.view_is) in
     rw (c.accept.ensures.taken, c.in_ok-challenge.ensures.challenge, c.in_ok-signed.ensures.exact)
     (ap (λ o. with_ledger c.bind_again.new.self (with_outbox o t)) c.in_ok-challenge.ensures.ok
-    ∙ (ap (queued true from text) (c.bind_again.ensures.state t text ∙ ap (λ u. request_started fresh text (purpose ∷ []) now (bind_retried d.local now u)) (c.queue_again.ensures.same t))
-    ∙ (bind-asked s d id fresh from text purpose given now listed written sent (c.fresh_id-fresh.ensures.id ∙ ap fresh_id (sym c.self.view_is))
+    ∙ (ap (queued true from text) (c.bind_again.ensures.state t text waits ∙ ap (λ u. request_started fresh text (purpose ∷ []) waits (bind_retried d.local now u)) (c.queue_again.ensures.same t))
+    ∙ (bind-asked s d id fresh from text purpose given now waits listed written sent (c.fresh_id-fresh.ensures.id ∙ ap fresh_id (sym c.self.view_is))
+    (c.waits_from-waits_from.ensures ∙ ap (waits_from c.args.now) (sym c.self.view_is))
     ∙ ap (λ u. bind_again d id given now u) c.self.view_is)))

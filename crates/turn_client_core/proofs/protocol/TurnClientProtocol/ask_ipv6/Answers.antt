@@ -1,5 +1,5 @@
 use Rattle.turn_client_laws.proofs.Common.{◌≡◌, ◌∙◌, false, true, ap, refl, sym, not, list_any, append-nil}
-use Rattle.turn_client_laws.proofs.Machine.{first_sent, without_transaction, transaction_ended, in_phase, is_for_allocation, wait, request_started, id_used, fresh_id, queued, request_for}
+use Rattle.turn_client_laws.proofs.Machine.{waits_from, first_sent, without_transaction, transaction_ended, in_phase, is_for_allocation, wait, request_started, id_used, fresh_id, queued, request_for}
 use Rattle.turn_client_laws.proofs.Machine.{AllocationCreateFailed, ForAllocation, id_of, IPV4, IPV6}
 use Rattle.std.specs.Prelude.{◌==◌, ◌∷◌, [], ◌++◌}
 use Rattle.turn_client_requests.specs.RequestAttributes.{with_asked_families}
@@ -37,9 +37,10 @@ returns-clause-ok c =
     let from = c.local_addr-from.result in
     let text = c.in_ok-text.text in
     let now = c.args.now in
+    let waits = c.waits_from-waits_from.result in
     let v = record (transaction_ended id s) { families = IPV6 ∷ [] } in
     let u = wait (AllocationCreateFailed IPV4 ∷ []) (record (in_phase s.phase (transaction_ended id s)) { families = IPV6 ∷ [] }) in
-    let new = first_sent fresh s.remote now text in
+    let new = first_sent fresh s.remote waits text in
     let own = sym (auth-is s c.self.inside.auth c.self.invariant.credentials c.self.invariant.supported c.self.invariant.anonymous refl) in
     let other : (fresh == id) ≡ false = rw c.transaction_id.ensures (answered-other
     (id_of c.args.message.now) fresh c.args.self.now.transactions c.fresh_id-fresh.ensures.unsent c.requires.outstanding) in
@@ -52,8 +53,9 @@ returns-clause-ok c =
     rw c.only_ipv6-families.ensures
     (ap (λ o. with_ledger c.ask-2.new.self (with_outbox o v)) (c.end.ensures ∙ ap (λ (o : Outgoing). record o { transactions = without_transaction id o.transactions }) c.in_ok-ask.ensures.ok)
     ∙ (ap (λ ts. queued true from text (with_ledger c.ask-2.new.self (record (id_used v) { transactions = ts }))) (without-other id new s.transactions other)
-    ∙ (ap (queued true from text) ((rw c.one.ensures at (c.ask-2.ensures.state v text now)) ∙ ap (λ w. request_started fresh text (ForAllocation ∷ []) now w) more)
-    ∙ (first-is u fresh from text now written (c.local_addr-from.ensures ∙ ap (λ t. t.local) (sym c.self.view_is))
+    ∙ (ap (queued true from text) ((rw c.one.ensures at (c.ask-2.ensures.state v text waits)) ∙ ap (λ w. request_started fresh text (ForAllocation ∷ []) waits w) more)
+    ∙ (first-is u fresh from text now waits written (c.local_addr-from.ensures ∙ ap (λ t. t.local) (sym c.self.view_is))
+    (c.waits_from-waits_from.ensures ∙ ap (waits_from c.args.now) (sym c.self.view_is))
     ∙ (ap (λ i. asks_ipv6 i now (transaction_ended id s)) (c.fresh_id-fresh.ensures.id)
     ∙ (ap (λ i. asks_ipv6 (fresh_id c.args.self.now) now (transaction_ended i s)) c.transaction_id.ensures
     ∙ ap (λ w. asks_ipv6 (fresh_id c.args.self.now) now (transaction_ended (id_of c.args.message.now) w)) c.self.view_is))))))

@@ -1,5 +1,5 @@
 use Rattle.turn_client_laws.proofs.Common.{◌≡◌, ◌∙◌, None, ap, sym, or_parts}
-use Rattle.turn_client_laws.proofs.Machine.{same_address, connection_at, fresh_id, request_for, ForBind}
+use Rattle.turn_client_laws.proofs.Machine.{waits_from, same_address, connection_at, fresh_id, request_for, ForBind}
 use Rattle.turn_client_grants.specs.Ledger.{with_ledger}
 use Rattle.turn_client_core.specs.Apart.{with_streams_of}
 use Rattle.turn_client_core.specs.Opened.{opened_with}
@@ -35,9 +35,10 @@ returns-clause-ok c =
     let text = c.in_ok-text.text in
     let purpose = ForBind c.args.local c.args.peer c.args.id in
     ap (λ o. with_ledger c.opened.new.self (with_outbox o s)) c.in_ok-ask_over.ensures.sent
-    ∙ (opens-is s c.reserve.new.self c.opened.new.self c.args.reply c.args.id request c.args.peer c.args.local text c.args.now
+    ∙ (opens-is s c.reserve.new.self c.opened.new.self c.args.reply c.args.id request c.args.peer c.args.local text c.args.now c.waits_from-waits_from.result
     (c.reserve.ensures.same s)
-    (c.opened.ensures.state s text)
+    (c.opened.ensures.state s text c.waits_from-waits_from.result)
     (c.in_ok-text.ensures ∙ ap (λ t. request_for t purpose request) (sym c.self.view_is))
     (c.fresh_id-request.ensures.id ∙ ap fresh_id (sym c.self.view_is))
+    (c.waits_from-waits_from.ensures ∙ ap (waits_from c.args.now) (sym c.self.view_is))
     ∙ ap (λ t. with_streams_of t (opened_with c.args.reply c.args.id c.args.peer c.args.local c.args.now t)) c.self.view_is)

@@ -1,5 +1,5 @@
 use Rattle.turn_client_laws.proofs.Common.{◌∙◌, true, ap, refl, sym}
-use Rattle.turn_client_laws.proofs.Machine.{deleted, request_started, fresh_id, queued}
+use Rattle.turn_client_laws.proofs.Machine.{waits_from, deleted, request_started, fresh_id, queued}
 use Rattle.turn_client_grants.specs.Asked.{all_back, expired_now}
 use Rattle.turn_client_grants.specs.Ledger.{with_ledger}
 use Rattle.turn_client_core.specs.contracts.protocol.TurnClientProtocol.{the_view}
@@ -26,13 +26,15 @@ returns-clause-ok c =
     let id = c.fresh_id-id.result in
     let from = c.local_addr-from.result in
     let text = c.in_ok-text.text in
+    let waits = c.waits_from-waits_from.result in
     let signs = auth-is s c.self.inside.auth c.self.invariant.credentials c.self.invariant.supported c.self.invariant.anonymous refl in
     ap (λ o. with_ledger c.queue_delete.new.self (with_outbox o s)) c.in_ok-ask.ensures.ok
-    ∙ (asked-is s c.reserve.new.self c.queue_delete.new.self id from text (all_back (with_ledger c.reserve.new.self s)) c.args.now (expired_now c.args.now) (c.reserve.ensures.same s)
-    (c.queue_delete.ensures.state s text)
-    ∙ (ap (λ t. queued true from text (request_started id text (all_back t) c.args.now (expired_now c.args.now s))) (c.reserve.ensures.same s)
-    ∙ (deletes-is s id from text c.args.now
+    ∙ (asked-is s c.reserve.new.self c.queue_delete.new.self id from text (all_back (with_ledger c.reserve.new.self s)) waits (expired_now c.args.now) (c.reserve.ensures.same s)
+    (c.queue_delete.ensures.state s text waits)
+    ∙ (ap (λ t. queued true from text (request_started id text (all_back t) waits (expired_now c.args.now s))) (c.reserve.ensures.same s)
+    ∙ (deletes-is s id from text c.args.now waits
     (c.in_ok-text.ensures s signs (sym (c.fresh_id-id.ensures.id ∙ ap fresh_id (sym c.self.view_is))))
     (c.local_addr-from.ensures ∙ ap (λ t. t.local) (sym c.self.view_is))
     (c.fresh_id-id.ensures.id ∙ ap fresh_id (sym c.self.view_is))
+    (c.waits_from-waits_from.ensures ∙ ap (waits_from c.args.now) (sym c.self.view_is))
     ∙ ap (deleted c.args.now) c.self.view_is)))

@@ -11,7 +11,7 @@ pub returns-in-Some-clause-step : goal.returns-in-Some-clause-step
 returns-in-Some-clause-step c =
     let s = the_view c.self.inside in
     let paused : is_paused c.args.now s ≡ c.is_paused-is_paused.result = rw (← c.self.view_is) at (sym c.is_paused-is_paused.ensures) in
-    rw (← c.self.view_is) (queued-some c.is_paused-is_paused.result c.args.now s c.self.inside.outbox _ c.in-Some.packet paused c.in-Some.ensures)
+    rw (← c.self.view_is) (queued-some c.is_paused-is_paused.result c.args.now s c.self.inside.outbox _ c.in-Some.packet paused (rw c.requests_timed_from_send-timed_from_send.ensures at c.in-Some.ensures))
 
 pub returns-then-is_paused-clause-step : goal.returns-then-is_paused-clause-step
 returns-then-is_paused-clause-step c =
@@ -22,7 +22,7 @@ pub returns-clause-step : goal.returns-clause-step
 returns-clause-step c =
     let s = the_view c.self.inside in
     let running : is_paused c.args.now s ≡ false = rw (← c.self.view_is) at (sym c.is_paused-is_paused.ensures ∙ c.if-is_paused.false) in
-    let sent = queued-none c.args.now s c.self.inside.outbox _ running (rw c.if-is_paused.false at c.in_default.ensures) in
+    let sent = queued-none c.args.now s c.self.inside.outbox _ running (rw (c.if-is_paused.false, c.requests_timed_from_send-timed_from_send.ensures) at c.in_default.ensures) in
     rw (← c.self.view_is)
     (subst (λ (r : Packet × State). IfOk c.send_asked.result (λ packet. ◌≡◌ {A = Packet × State} (packet, c.send_asked.new.self) r))
     sent c.send_asked.ensures.step)
@@ -30,14 +30,14 @@ returns-clause-step c =
 pub returns-clause-err : goal.returns-clause-err
 returns-clause-err c =
     let s = the_view c.self.inside in
-    let same = front-same c.args.now c.self.inside.outbox _ (rw c.if-is_paused.false at c.in_default.ensures) in
+    let same = front-same c.requests_timed_from_send-timed_from_send.result c.args.now c.self.inside.outbox _ (rw c.if-is_paused.false at c.in_default.ensures) in
     rw (← c.self.view_is) (subst (λ (o : Outgoing). OnErr c.send_asked.result (c.send_asked.new.self ≡ with_outbox o s)) same c.send_asked.ensures.err)
 
 pub returns-clause-free : goal.returns-clause-free
 returns-clause-free c =
     let s = the_view c.self.inside in
     let running : is_paused c.args.now s ≡ false = rw (← c.self.view_is) at (sym c.is_paused-is_paused.ensures ∙ c.if-is_paused.false) in
-    let sent = queued-none c.args.now s c.self.inside.outbox _ running (rw c.if-is_paused.false at c.in_default.ensures) in
+    let sent = queued-none c.args.now s c.self.inside.outbox _ running (rw (c.if-is_paused.false, c.requests_timed_from_send-timed_from_send.ensures) at c.in_default.ensures) in
     rw (← c.self.view_is) (subst (λ (r : Packet × State). OnErr c.send_asked.result (IsSome r.0)) sent c.send_asked.ensures.free)
 
 pub returns-clause-running : goal.returns-clause-running
@@ -45,5 +45,5 @@ returns-clause-running c = on-err c.send_asked.result (sym c.is_paused-is_paused
 
 pub returns-clause-wanted : goal.returns-clause-wanted
 returns-clause-wanted c =
-    let none : (the_view c.self.inside).queue ≡ [] = front-none c.args.now c.self.inside.outbox _ (rw c.if-is_paused.false at c.in_default.ensures) in
+    let none : (the_view c.self.inside).queue ≡ [] = front-none c.requests_timed_from_send-timed_from_send.result c.args.now c.self.inside.outbox _ (rw c.if-is_paused.false at c.in_default.ensures) in
     rw (← c.self.view_is) (on-err c.send_asked.result none)

@@ -15,7 +15,7 @@ list-requires-clause-new c =
 
 pub returns-clause-state : goal.returns-clause-state
 unfolding holds changed
-returns-clause-state c = λ s text.
+returns-clause-state c = λ s text from.
     let read : purposes_in c.all_deleted-purposes.result ≡ all_back (with_ledger c.args.self.now s) = c.all_deleted-purposes.ensures s in
     rw (← read, c.list.ensures.grants, c.list.ensures.listed, c.change.ensures.grants, c.change.ensures.listed, c.remove.ensures.grants, c.remove.ensures.listed, ← c.self.view_is) refl
 
