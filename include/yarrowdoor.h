@@ -235,7 +235,8 @@ typedef struct yarrowdoor_settings {
     uint32_t anonymous;            /* YARROWDOOR_AUTO, YARROWDOOR_REQUIRED or YARROWDOOR_DISABLED */
     uint16_t max_stale_nonces;     /* that are answered in a row; the next challenge ends the client. 0: nine, the default in
                                       Rust; yarrowdoor_settings_of sets 256 */
-    uint16_t reserved;             /* 0 */
+    uint16_t timed_from_send;      /* 1: a queued request waits for its response from when its first copy is transmitted, and is
+                                      not transmitted again before that. 0: from when it is made */
     yarrowdoor_address local;      /* the client's address: that of the socket */
     yarrowdoor_address remote;     /* the server's address */
     uint64_t request_cadence;      /* the pause between two requests, in nanoseconds. 0: 50 ms. YARROWDOOR_NO_PAUSE: none */
@@ -430,7 +431,7 @@ YARROWDOOR_AT(settings, algorithm, 48, 4);
 YARROWDOOR_AT(settings, other_algorithm, 52, 4);
 YARROWDOOR_AT(settings, anonymous, 56, 4);
 YARROWDOOR_AT(settings, max_stale_nonces, 60, 2);
-YARROWDOOR_AT(settings, reserved, 62, 2);
+YARROWDOOR_AT(settings, timed_from_send, 62, 2);
 YARROWDOOR_AT(settings, local, 64, 28);
 YARROWDOOR_AT(settings, remote, 92, 28);
 YARROWDOOR_AT(settings, request_cadence, 120, 8);

@@ -145,6 +145,7 @@ pub(crate) fn settings(
         other_algorithm: code_at(algorithms, 1, algorithm_code),
         anonymous: feature_code(config.anonymous_username()),
         max_stale_nonces: config.max_stale_nonces().get(),
+        timed_from_send: u16::from(config.requests_timed_from_send()),
         local: address(local),
         remote: address(remote),
         request_cadence: cadence_code(config.request_cadence()),

@@ -39,8 +39,8 @@
 //! - [`api::SendError`] has the variant `PayloadTooLong`: data of over 65,504 bytes fits into no datagram to the server.
 //! - A packet of `send_to` is built by the call: [`api::DelayedMessageOrChannelSend`] holds its bytes. Neither
 //!   [`types::transmit::DelayedChannel`] nor [`types::transmit::DelayedMessage`] is made otherwise.
-//! - [`api::TurnConfig`] has four setters more: `set_max_stale_nonces`, `set_request_cadence`, `set_keepalive` and
-//!   `set_refresh_ahead`, and `kept_grants` and `longest_cadence`, which say how many grants a client keeps beside an
+//! - [`api::TurnConfig`] has five setters more: `set_max_stale_nonces`, `set_request_cadence`, `set_keepalive`,
+//!   `set_refresh_ahead` and `set_requests_timed_from_send`, and `kept_grants` and `longest_cadence`, which say how many grants a client keeps beside an
 //!   [`api::Load`]. Each client has `set_permission_kept` and `set_channel_kept` beside the trait, with the error
 //!   [`api::KeepError`], `send_head`, which makes an [`api::PacketHead`], and `abandon`, for who closes a socket at once.
 //! - `allocate_with_seed` takes the seed of the transaction IDs; `allocate` draws one from the system.

@@ -122,7 +122,7 @@ pub(crate) struct Settings {
     pub(crate) other_algorithm: u32,
     pub(crate) anonymous: u32,
     pub(crate) max_stale_nonces: u16,
-    pub(crate) reserved: u16,
+    pub(crate) timed_from_send: u16,
     pub(crate) local: Address,
     pub(crate) remote: Address,
     pub(crate) request_cadence: u64,

@@ -3,7 +3,7 @@
 mod server;
 
 use server::{allocate, at, grant, next};
-use std::net::SocketAddr;
+use std::net::{IpAddr, SocketAddr};
 use std::time::Duration;
 use yarrowdoor::api::{KeepError, TurnConfig, TurnEvent, TurnPollRet};
 use yarrowdoor::client::TurnClient;
@@ -135,6 +135,31 @@ fn a_grant_is_refreshed_ahead_of_its_expiry() {
         assert!(next(&mut client, at(due - 1)).is_none());
         assert_eq!(next(&mut client, at(due)).unwrap().kind, server::REFRESH);
     }
+}
+
+/// How many packets a client returns in one instant, half a second after thirty requests were made, of which none is answered.
+fn sent_at_once(timed_from_send: bool) -> usize {
+    let mut config = config();
+    config.set_requests_timed_from_send(timed_from_send);
+    assert_eq!(config.requests_timed_from_send(), timed_from_send);
+    let mut client = client(config);
+    for last in 10..40 {
+        client
+            .create_permission(UDP, IpAddr::from([10, 0, 0, last]), at(2))
+            .unwrap();
+    }
+    let mut now = at(2);
+    while now < at(2) + Duration::from_millis(500) {
+        while next(&mut client, now).is_some() {}
+        now = wake_up(&mut client, now);
+    }
+    std::iter::from_fn(|| next(&mut client, now)).count()
+}
+
+#[test]
+fn a_burst_leaves_in_its_turn_if_set_so() {
+    assert!(!config().requests_timed_from_send());
+    assert_eq!((sent_at_once(false), sent_at_once(true)), (30, 1));
 }
 
 #[test]

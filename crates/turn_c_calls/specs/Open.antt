@@ -22,12 +22,14 @@ c_seed seed = if length seed == 32 then Some seed else None
 abbrev pub limited : ℕ → Config → Config
 limited limit config = record config { max_stale_nonces = if limit == 0 then config.max_stale_nonces else limit }
 
--- the same with the times that a plan has, of which two are at least the least that a configuration takes
+-- the same with the times that a plan has, of which two are at least the least that a configuration takes, and from when on
+-- requests wait for their responses
 abbrev pub paced : Plan → Config → Config
 paced plan config = record config {
   request_cadence = unwrap_or plan.request_cadence config.request_cadence;
   keepalive = option_map (max least_keepalive) plan.keepalive;
   refresh_ahead = unwrap_or (option_map (max least_refresh_ahead) plan.refresh_ahead) config.refresh_ahead;
+  timed_from_send = plan.timed_from_send;
 }
 
 abbrev pub config_of : Plan → Credentials → Config

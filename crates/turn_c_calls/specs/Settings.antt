@@ -78,7 +78,11 @@ c_cadence nanos = if nanos == NO_PAUSE then Some 0 else unless_zero nanos
 
 -- the reserved places are 0; an address looks at its own
 abbrev pub has_reserved_zero : Settings → Bool
-has_reserved_zero s = s.reserved == 0 && slice_index s.reserved_places 0 == 0 && slice_index s.reserved_places 1 == 0
+has_reserved_zero s = slice_index s.reserved_places 0 == 0 && slice_index s.reserved_places 1 == 0
+
+-- a setting that is off or on
+abbrev pub c_switch : ℕ → Option Bool
+c_switch number = if number == 0 then Some false else if number == 1 then Some true else None
 
 abbrev pub if_true : Bool → Option (Unit {0})
 if_true true = Some tt
@@ -91,6 +95,7 @@ plan_of s = do
   ends ← c_ends s
   request ← c_requested s
   _ ← relayed_for ends.transport request.allocation
+  timed_from_send ← c_switch s.timed_from_send
   Some (record {
     ends = ends;
     request = request;
@@ -99,4 +104,5 @@ plan_of s = do
     request_cadence = c_cadence s.request_cadence;
     keepalive = unless_zero s.keepalive;
     refresh_ahead = unless_zero s.refresh_ahead;
+    timed_from_send = timed_from_send;
   })

@@ -120,7 +120,7 @@ fn limit(config: &mut TurnConfig, max_stale_nonces: u16)
     }
 }
 
-/// Sets the times that a plan has.
+/// Sets the times that a plan has, and from when on requests wait for their responses.
 fn pace(config: &mut TurnConfig, plan: &Plan)
     ensures { config.new ≡ paced plan.now config.old }
 {
@@ -134,6 +134,7 @@ fn pace(config: &mut TurnConfig, plan: &Plan)
     if let Some(nanos) = plan.refresh_ahead {
         config.set_refresh_ahead(Duration::from_nanos(nanos));
     }
+    config.set_requests_timed_from_send(plan.timed_from_send);
 }
 
 /// The new client of a plan.

@@ -3,7 +3,7 @@
 ghost use Rattle.std.specs.Prelude.{◌≡◌, IfSome};
 ghost use Rattle.turn_stun.specs.declared.transport.TransportType.TheVariants.{Udp};
 ghost use Rattle.turn_c_calls.specs.Settings.{c_algorithm, c_algorithms, c_cadence, c_families, c_family, c_feature, has_reserved_zero, unless_zero};
-ghost use Rattle.turn_c_calls.specs.Settings.{c_ends, other_algorithm, other_family, plan_of, c_requested, c_waits};
+ghost use Rattle.turn_c_calls.specs.Settings.{c_ends, c_switch, other_algorithm, other_family, plan_of, c_requested, c_waits};
 
 use crate::address::{Address, c_transport, socket_at};
 use crate::code::{AUTO, DISABLED, NO_PAUSE, NONE, REQUIRED, SHA1, SHA256, VERSION_4, VERSION_6};
@@ -42,8 +42,8 @@ pub struct Settings {
     pub anonymous: u32,
     /// How many challenges in a row are answered, or 0 for the default number.
     pub max_stale_nonces: u16,
-    /// 0.
-    pub reserved: u16,
+    /// 1 if a queued request waits for its response from when its first copy is sent, and 0 if it does from when it is made.
+    pub timed_from_send: u16,
     /// The client's address.
     pub local: Address,
     /// The server's address.
@@ -75,6 +75,8 @@ pub struct Plan {
     pub keepalive: Option<u64>,
     /// How long before its expiry a grant is refreshed, in nanoseconds, or `None` for the default.
     pub refresh_ahead: Option<u64>,
+    /// Whether a queued request waits for its response from when its first copy is sent.
+    pub timed_from_send: bool,
 }
 
 /// What the settings say, or none if a number or an address is invalid, a reserved place is not 0, or a client over UDP
@@ -89,6 +91,7 @@ pub fn plan_of(settings: &Settings) -> Option<Plan>
     let ends = c_ends(settings)?;
     let request = c_requested(settings)?;
     relayed_for(ends.transport, request.allocation)?;
+    let timed_from_send = c_switch(settings.timed_from_send)?;
     Some(Plan {
         ends,
         request,
@@ -97,6 +100,7 @@ pub fn plan_of(settings: &Settings) -> Option<Plan>
         request_cadence: c_cadence(settings.request_cadence),
         keepalive: unless_zero(settings.keepalive),
         refresh_ahead: unless_zero(settings.refresh_ahead),
+        timed_from_send,
     })
 }
 
@@ -105,7 +109,18 @@ fn has_reserved_zero(settings: &Settings) -> bool
     ensures { result ≡ has_reserved_zero settings.now }
 {
     let places = settings.reserved_places;
-    settings.reserved == 0 && places[0] == 0 && places[1] == 0
+    places[0] == 0 && places[1] == 0
+}
+
+/// Whether a setting is on: 0 is off, and 1 is on.
+fn c_switch(number: u16) -> Option<bool>
+    ensures { result ≡ c_switch number }
+{
+    match number {
+        0 => Some(false),
+        1 => Some(true),
+        _ => None,
+    }
 }
 
 /// The pause between two requests, or `None` for the default one.

@@ -23,6 +23,7 @@ pub struct TurnConfig {
     // Neither time is under a second.
     keepalive: Option<Duration>,
     refresh_ahead: Duration,
+    requests_timed_from_send: bool,
 }
 
 /// How many challenges in a row are answered unless `set_max_stale_nonces` says otherwise.
@@ -77,6 +78,7 @@ impl TurnConfig {
             request_cadence: Duration::from_millis(50),
             keepalive: None,
             refresh_ahead: Duration::from_secs(60),
+            requests_timed_from_send: false,
         }
     }
 
@@ -263,5 +265,21 @@ impl TurnConfig {
     #[must_use]
     pub fn refresh_ahead(&self) -> Duration {
         self.refresh_ahead
+    }
+
+    /// Sets whether a queued request waits for its response from when `poll_transmit` returns its first copy (RFC 8489, section
+    /// 6.2.1: a request is retransmitted from when it was sent), and not from when it is made. Of a burst each request then
+    /// leaves once, in its turn; else all that have not left after half a second leave in one instant, as retransmissions. As
+    /// long as nobody takes its first copy, a request does not time out, and what it requests stays pending, at the latest until
+    /// the allocation is removed; after `delete` the client ends only once the REFRESH was taken, and answered or timed out. By
+    /// default requests wait from when they are made. The original crate has no such setter.
+    pub fn set_requests_timed_from_send(&mut self, timed_from_send: bool) {
+        self.requests_timed_from_send = timed_from_send;
+    }
+
+    /// Whether a queued request waits for its response from when its first copy is returned.
+    #[must_use]
+    pub fn requests_timed_from_send(&self) -> bool {
+        self.requests_timed_from_send
     }
 }
