@@ -94,7 +94,7 @@ def number(table: Dict[str, int], word: str) -> int:
 
 def packed_settings(local: bytes, remote: bytes, way: int, relay_way: int, families: Sequence[int], algorithms: Sequence[str],
                     anonymous: str, times: Optional[Times], max_stale_nonces: int, pause: int, keepalive: int,
-                    refresh_ahead: int) -> bytes:
+                    refresh_ahead: int, timed_from_send: bool) -> bytes:
     """The settings of a client as the library has them. `ValueError` where there are no such, `TypeError` for other `times`."""
     signs = [number(_ALGORITHMS, it) for it in algorithms]
     if not 1 <= len(families) <= 2 or not 1 <= len(signs) <= 2:
@@ -105,7 +105,7 @@ def packed_settings(local: bytes, remote: bytes, way: int, relay_way: int, famil
     waits = (times.initial, times.longest, times.last, times.count, 1) if times else (0, 0, 0, 0, 0)
     try:
         return c.SETTINGS.pack(*waits, way, relay_way, *_two(families), *_two(signs), number(_ANONYMOUS, anonymous),
-                               max_stale_nonces, 0, local, remote, pause or c.NO_PAUSE, keepalive, refresh_ahead)
+                               max_stale_nonces, bool(timed_from_send), local, remote, pause or c.NO_PAUSE, keepalive, refresh_ahead)
     except struct.error as error:
         raise ValueError(f"a number of the settings does not fit: {error}") from None
 
