@@ -29,6 +29,21 @@ test("a new client is due at once, sends the first ALLOCATE, and waits half a se
     client.close();
 });
 
+test("half a second after a burst, all that has not left leaves in one instant, or one packet if requests are timed from their sending", async () => {
+    const module = await library();
+    for (const [timedFromSend, count] of [[false, 30], [true, 1]]) {
+        const client = boundClient(module, { timedFromSend }), end = NOW + 500_000_000n;
+        for (let last = 10; last < 40; last++) {
+            client.createPermission(`10.1.0.${last}`, NOW);
+        }
+        for (let now = NOW; now < end; now = client.poll(now).until) {
+            assert.ok([...client.packets(now)].length <= 1);
+        }
+        assert.equal([...client.packets(end)].length, count);
+        client.close();
+    }
+});
+
 test("times are exact in nanoseconds, and never read as earlier", async () => {
     for (const now of [0, 1e-6, 0.1, 1234.567891, 86_400_000.000001, 2 ** 42 + 0.25, 4e12]) {
         const client = new Client({ ...SETTINGS, times: { initial: 333_000_333n } }, await library());

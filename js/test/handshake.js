@@ -22,9 +22,9 @@ export const HANDSHAKE = `udp ${LOCAL} ${SERVER} udp 4 sha1 auto 75736572 706173
 100000000 event
 `;
 
-/** A new client with the channel. */
-export function boundClient(library) {
-    const { head, calls } = parseTrace(HANDSHAKE), client = new Client(head, library);
+/** A new client with the channel, and with more settings. */
+export function boundClient(library, more = {}) {
+    const { head, calls } = parseTrace(HANDSHAKE), client = new Client({ ...head, ...more }, library);
     const last = calls.map((call) => answerTo(client, call)).slice(-3).join(", ");
     if (last !== "allocated udp 10.0.0.4:40000, permitted udp 10.0.0.3, bound udp 10.0.0.3:9000") {
         throw new Error(`the handshake ended with ${last}`);

@@ -1,5 +1,6 @@
 """A client without I/O against the server of the tests, in a time of its own, and what is no client."""
 import unittest
+from collections import Counter
 from typing import Any, List
 
 from yarrowdoor import Address, Times, TurnClient
@@ -58,6 +59,22 @@ class InItsOwnTime(unittest.TestCase):
         network = self.thirty_peers_over_a_slow_link(9)
         self.assertTrue(network.is_closed)
         self.assertEqual(network.of(PermissionCreated), [])
+
+    def most_at_once(self, **settings: Any) -> int:
+        """How many packets leave in one instant after 250 permissions were requested in another, each of which is granted in 20 ms."""
+        network = self.allocated(TestServer(), **settings)
+        left: Counter[int] = Counter()
+        carry = network.to_server
+        network.to_server = lambda data: (left.update([network.now]), carry(data))[1]  # type: ignore[method-assign]
+        for number in range(250):
+            network.client.create_permission(f"10.1.0.{number}", network.now)
+        network.run(60)
+        self.assertEqual(len(network.of(PermissionCreated)), 250)
+        return max(left.values())
+
+    def test_a_burst(self) -> None:
+        self.assertGreater(self.most_at_once(), 200)
+        self.assertEqual(self.most_at_once(timed_from_send=True), 1)
 
     def test_loss_and_late_and_doubled_packets(self) -> None:
         network = self.allocated(TestServer(), loss=0.1, doubled=0.1, jitter=0.2, seed=7)
