@@ -86,7 +86,7 @@ def places(words: Sequence[str]) -> Set[Place]:
     hosts = [host for word, host in named if word == "-L"]
     port, tls_port = ports.get("-p", "3478"), ports.get("--tls-listening-port", "5349")
     found = {(it, host, int(port)) for it in ("tcp", "udp") if f"--no-{it}" not in words for host in hosts}
-    return found | {("tcp", host, int(tls_port)) for host in hosts if "--cert" in words}
+    return found | {("tcp", host, int(tls_port)) for host in hosts if "--cert" in words and tls_port != "0"}  # 0 is none
 
 
 def _listening(pid: int) -> Set[Place]:

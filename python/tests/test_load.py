@@ -10,6 +10,7 @@ import unittest
 from typing import Any, Dict, List, Optional, Tuple
 from unittest import mock
 
+from yarrowdoor import reasons
 from yarrowdoor.command import driver, output, ramp
 from yarrowdoor.command.percentiles import percentile, percentiles
 from yarrowdoor.command.steps import Step
@@ -77,13 +78,15 @@ class Loads(unittest.TestCase):
     def test_the_first_refusal_stops_it(self) -> None:
         limited = Limited(5)
         with Threaded(limited) as server:
-            status, steps, _ = load(server, "--allocations", "50", *QUICK)
+            status, steps, _ = load(server, "--allocations", "400", *QUICK)
             self.assertEqual(server.server.allocations, {})
         step = steps["ramp"]
         self.assertEqual((status, step["outcome"], step["facts"]["stopped"], step["facts"]["code"]), (0, "note", "refused", 486))
         self.assertEqual((step["facts"]["granted"], limited.granted, step["facts"]["phrase"]), (5, 5, "no"))
         self.assertIn("user-quota=", step["advice"])
-        self.assertLess(len([it for it in server.received if it[:2] == b"\0\3"]), 50)
+        # Each has an ALLOCATE that is not signed. On a busy machine many are on the way when the first refusal comes.
+        unsigned = [it for it in server.received if it[:2] == b"\0\3" and reasons.attribute(it, 0x0006) is None]
+        self.assertLess(len({*unsigned}), 400)
 
     def test_a_refusal_that_is_no_limit_is_a_failure(self) -> None:
         for most, code in ((3, 403), (0, 486)):

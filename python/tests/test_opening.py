@@ -12,6 +12,7 @@ from yarrowdoor.servers import Server
 
 from .network import SECOND, Endpoint, StreamEndpoint
 from .server import Server as TestServer
+from .turn_servers import fast
 
 
 class Opening(unittest.IsolatedAsyncioTestCase):
@@ -166,7 +167,7 @@ class Ending(unittest.IsolatedAsyncioTestCase):
     async def test_a_server_that_dies(self) -> None:
         endpoint = await self.serve()
         told: List[Any] = []
-        async with TurnClient(endpoint.uri, "user", "pass", clock=Clock(rate=300)) as relay:
+        async with TurnClient(endpoint.uri, "user", "pass", clock=fast(100)) as relay:
             relay.on_lost = told.append
             await relay.permit("10.1.0.1")
             endpoint.server.is_dead = True

@@ -10,6 +10,7 @@ from yarrowdoor import tries, vigil
 
 from .network import Endpoint, StreamEndpoint
 from .server import CHANNEL_BIND, CREATE_PERMISSION, Server, Where, attribute, parse, unxored, xored
+from .turn_servers import fast
 
 PEER, OTHER = ("10.1.0.1", 9), ("10.1.0.2", 9)
 QUICK = Backoff(first=0.05, longest=0.2)
@@ -113,12 +114,12 @@ class Returns(Case):
         """It shows at the next refresh."""
         endpoint = await self.serve(Restarting())
         for grants in (True, False):
-            relay, states = self.relay(endpoint, clock=Clock(rate=100), probe=1500, times=Times())
+            relay, states = self.relay(endpoint, clock=fast(100), probe=1500, times=Times())
             async with relay:
                 if grants:
                     await relay.permit(PEER[0])
                 endpoint.server.forget()
-                await self.until(lambda: len(states) == 3, 30)
+                await self.until(lambda: len(states) == 3, 120)
                 self.assertRegex(str(states[1].reason), "^the server no longer knows the relayed address: .*437")
                 await self.echo(relay)
 

@@ -17,6 +17,7 @@ from .coturn import make_certificate
 from .leaps import LoopClock, run
 from .network import Endpoint, StreamEndpoint
 from .server import ALLOCATE, Server, Where
+from .turn_servers import fast
 from .test_relay import PEER, Case, Restarting
 
 
@@ -209,7 +210,8 @@ class Places(Case):
         """When an allocation of one's own cannot live any more, or was deleted, it is final."""
         for is_deleted in (False, True):
             endpoint = await self.serve(Restarting())
-            relay, states = self.relay(endpoint, clock=Clock(rate=600))
+            clock = fast(200)
+            relay, states = self.relay(endpoint, clock=clock)
             async with relay:
                 client: Any = relay._revival.client
                 endpoint.server.refused = lambda message, life: 486
@@ -218,10 +220,10 @@ class Places(Case):
                 else:
                     endpoint.server.is_dead = True
                     client._session().breaks("the path is gone", None)
-                    await asyncio.sleep(0.2)
+                    await asyncio.sleep(clock.real(120))
                     endpoint.server.is_dead = False
                 with self.assertRaisesRegex(Ended, "486"):
-                    await asyncio.wait_for(relay.wait_closed(), 30)
+                    await asyncio.wait_for(relay.wait_closed(), 120)
 
     async def test_addresses(self) -> None:
         endpoint = await self.serve(Restarting())

@@ -4,10 +4,11 @@ import unittest
 import unittest.mock
 from typing import Any, List
 
-from yarrowdoor import ChannelFailed, Clock, Ended, PermissionFailed, Refused, TurnClient
+from yarrowdoor import ChannelFailed, Ended, PermissionFailed, Refused, TurnClient
 
 from .network import Endpoint, StreamEndpoint
 from .server import Server as TestServer
+from .turn_servers import fast
 
 
 class ThroughASocket(unittest.IsolatedAsyncioTestCase):
@@ -89,11 +90,11 @@ class ThroughASocket(unittest.IsolatedAsyncioTestCase):
     async def test_a_channel_whose_permission_is_gone(self) -> None:
         endpoint = await self.serve()
         peer, is_lost = ("10.1.0.1", 9000), asyncio.Event()
-        async with TurnClient(endpoint.uri, "user", "pass", clock=Clock(rate=100)) as relay:
+        async with TurnClient(endpoint.uri, "user", "pass", clock=fast(100)) as relay:
             relay.on_lost = lambda lost: is_lost.set()
             await relay.bind(peer)
             endpoint.server.denied = (peer[0],)
-            await asyncio.wait_for(is_lost.wait(), 10)  # the refresh at 240 s
+            await asyncio.wait_for(is_lost.wait(), 60)  # the refresh at 240 s
             endpoint.server.denied = ()
             await relay.bind(peer)
             relay.sendto(b"hello", peer)
@@ -107,12 +108,12 @@ class ThroughASocket(unittest.IsolatedAsyncioTestCase):
         def refuse(lost: object) -> None:
             raise KeyError(lost)
 
-        async with TurnClient(endpoint.uri, "user", "pass", clock=Clock(rate=300)) as relay:
+        async with TurnClient(endpoint.uri, "user", "pass", clock=fast(100)) as relay:
             relay.on_lost = refuse
             await relay.permit("10.1.0.1")
             endpoint.server.is_dead = True
             with self.assertRaises(Ended):
-                await asyncio.wait_for(relay.wait_closed(), 10)
+                await asyncio.wait_for(relay.wait_closed(), 60)
         self.assertEqual([type(it) for it in told], [KeyError])
 
     async def test_takers_that_are_cancelled_are_forgotten(self) -> None:

@@ -23,6 +23,7 @@ from . import coturn
 from .network import StreamEndpoint
 from .server import CREATE_PERMISSION, Message, Server
 from .threaded import Threaded
+from .turn_servers import fast
 
 PEER = ("10.1.0.1", 9)
 
@@ -137,13 +138,13 @@ class OverUdp(unittest.TestCase):
 
     def test_what_is_lost_is_told(self) -> None:
         server = Counting()
-        _, relay = self.relay(server, clock=Clock(rate=400.0))
+        _, relay = self.relay(server, clock=fast(100.0))
         told: List[Lost] = []
         relay.on_lost = told.append
         relay.permit(PEER[0])
         server.denied = (PEER[0],)
         start = time.monotonic()
-        while not told and time.monotonic() < start + 20:
+        while not told and time.monotonic() < start + 60:
             time.sleep(0.01)
         self.assertEqual((told, [*relay.lost]), ([Lost("permission", PEER[0])],) * 2)
         with self.assertRaises(PermissionFailed):

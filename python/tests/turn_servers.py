@@ -9,6 +9,8 @@ import threading
 import time
 from typing import Iterator, List, Optional, Sequence
 
+from yarrowdoor import Clock
+
 from .coturn import places, wait_for
 
 PION_SOURCE = pathlib.Path(__file__).resolve().parent / "pion" / "main.go"
@@ -119,9 +121,24 @@ def other_service(answer: Optional[bytes], port: int) -> Iterator[None]:
 
 def limit(seconds: float) -> float:
     """A limit of time, which is wider where more programs than processors are running: then they wait for each other."""
-    # The average is that of a minute, and many tests begin at once: so what is running now counts too.
+    return 10 * seconds if _is_busy() else seconds
+
+
+def _is_busy() -> bool:
+    """Whether programs wait for a processor. The average load is that of a minute, and many tests begin at once: so what is running
+    now counts too, and for how much of the last ten seconds, in a hundred, some program has waited, where the kernel tells it."""
     running = int(pathlib.Path("/proc/loadavg").read_text().split()[3].partition("/")[0])
-    return seconds if max(os.getloadavg()[0], running) <= len(os.sched_getaffinity(0)) else 10 * seconds
+    if max(os.getloadavg()[0], running) > len(os.sched_getaffinity(0)):
+        return True
+    with contextlib.suppress(OSError, IndexError, ValueError):
+        return float(pathlib.Path("/proc/pressure/cpu").read_text().split()[1].partition("=")[2]) > 20
+    return False
+
+
+def fast(rate: float) -> Clock:
+    """A clock that is so many times as fast for a client, and a tenth of it where more programs than processors are running: the
+    client waits 39.5 s of it for an answer, which are to be long beside what a busy machine takes to run a server again."""
+    return Clock(rate=rate / limit(1.0))
 
 
 def make_certificate(room: str, name: str, days: int = 2) -> List[str]:
