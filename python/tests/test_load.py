@@ -97,11 +97,13 @@ class Loads(unittest.TestCase):
             self.assertEqual((status, step["outcome"], step["facts"]["code"], step["facts"]["granted"]), (1, "failed", code, most))
 
     def test_local_ports_that_are_taken(self) -> None:
+        taken: Dict[Where, bool] = {}
+
         class Taken(Limited):
-            """It has something of each second local port."""
+            """It has something of each second local port that comes: of those that the system draws too many may be taken."""
 
             def allocate(self, message: Message, source: Where, allocation: Optional[Allocation], now: float) -> bytes:
-                if source[1] // 2 % 2:
+                if taken.setdefault(source, len(taken) % 2 == 1):
                     return self.error(message, 437)
                 return super().allocate(message, source, allocation, now)
 
