@@ -1,14 +1,48 @@
 """`order`: the inputs out of a stream are the frames of all that arrives for it, in order, none twice and none left out.
 
 It is seen by the payloads. Those of a stream come in the order of their frames, each once (RFC 8656, section 12.5). A Data
-indication of a peer whose IP address `permissions` listed just before is delivered by the time at which `poll_recv` returns
-nothing, and so are all bytes of a bound stream of which some are delivered (RFC 6062, section 4.3). A client that has ended
-ignores what comes.
+indication of a peer whose IP address has a permission when it is processed is delivered by the time at which `poll_recv` returns
+nothing, and so are all bytes of a bound stream of which some are delivered (RFC 6062, section 4.3). It has one where
+`permissions` listed it, and nothing since then can have ended it: a response can, as a 403 to the request that was to prolong it
+(section 9.2), and so can each call that neither looks, sends nor receives. A client that has ended ignores what comes, and a
+stream that the server has closed holds nothing.
 """
 from . import stun
 from .facts import walk
 from .given import carried
 from .lines import address_in, bytes_in, ip_in
+
+
+# The calls that take no permission away but by what they process.
+KEEPING = ("relayed", "permissions", "have", "send", "transmit", "event", "recv", "poll_recv")
+
+
+class Listed:
+    """The IP addresses that have a permission for certain, when what arrives now is processed."""
+
+    def __init__(self):
+        self.ips, self.is_answered = set(), False
+
+    def call(self, call):
+        """A call was made, before what arrives by it."""
+        if call.name == "relayed" or call.name not in KEEPING:
+            self.ips = set()
+        elif call.name == "permissions" and not self.is_answered:
+            self.ips |= {ip_in(word) for word in call.answer[2:]}
+
+    def arrived(self, one):
+        """A response may take permissions away when it is processed: until all is, those that are listed may be of before."""
+        if one.message is not None and one.message.kind != stun.INDICATION:
+            self.ips, self.is_answered = set(), True
+
+    def emptied(self):
+        """All that has arrived is processed."""
+        self.is_answered = False
+
+
+def is_read(indication):
+    """Whether it has neither an attribute that has to be known and is not, nor a peer that cannot be read."""
+    return not stun.has_unknown(indication) and len(indication.addresses(stun.PEER)) == len(indication.values(stun.PEER))
 
 
 class Waiting:
@@ -17,12 +51,20 @@ class Waiting:
     def __init__(self):
         self.frames, self.bytes, self.begun = [], {}, set()
 
-    def take(self, one, held, listed):
+    def call(self, call, control):
+        """A call was made, before what arrives by it: it may take permissions away, or close a stream."""
+        is_closed = call.name == "recv" and not bytes_in(call.words[4])
+        if call.name not in KEEPING or is_closed and address_in(call.words[3]) == control:
+            self.frames = [(found, False) for found, _ in self.frames]
+        elif is_closed:
+            self.bytes.pop(address_in(call.words[3]), None)
+            self.begun.discard(address_in(call.words[3]))
+
+    def take(self, one, held, ips):
         if one.mode == "bound":
             self.bytes[one.local] = self.bytes.get(one.local, b"") + one.raw
         elif found := carried(one, held):
-            is_certain = one.message is not None and found[0][0] in listed and not stun.has_unknown(one.message)
-            self.frames.append((found, is_certain))
+            self.frames.append((found, one.message is not None and found[0][0] in ips and is_read(one.message)))
 
     def deliver(self, given, bound):
         """Removes what was delivered, and says what is wrong with it."""
@@ -45,21 +87,22 @@ class Waiting:
 
 
 def faults_of(run):
-    waiting, listed, last = Waiting(), set(), run.last_open()
+    waiting, listed, last = Waiting(), Listed(), run.last_open()
     for call, facts in walk(run):
         step = facts.take(call)
-        if call.name == "relayed":
-            listed = set()
-        elif call.name == "permissions":
-            listed |= {ip_in(word) for word in call.answer[2:]}
+        listed.call(call)
+        waiting.call(call, run.local)
         for one in step.inputs:
-            waiting.take(one, step.before, listed)
+            listed.arrived(one)
+            waiting.take(one, step.before, listed.ips)
         if call.answer[0] == "data":
             what = waiting.deliver((address_in(call.answer[2]), bytes_in(call.answer[3])), facts.bound)
             if what:
                 yield call, what
-        elif call.name == "poll_recv" and waiting.end() and call.number < last:
-            yield call, "what had arrived of a permitted peer was left out"
+        elif call.name == "poll_recv":
+            listed.emptied()
+            if waiting.end() and call.number < last:
+                yield call, "what had arrived of a permitted peer was left out"
 
 
 def faults(runs):
