@@ -34,7 +34,7 @@ names_password() {
     turnserver -n --no-tls --no-dtls --no-cli --lt-cred-mech -u user:pass -r realm -L 127.0.0.1 -p "$server" \
         --log-file "$room/turnserver.log" --pidfile "$room/turnserver.pid" &
     started=$!
-    sleep 1
+    "$tests/wait-for" "$server" || true
     found=$(timeout 1 "$program" "127.0.0.1:$server" user other 127.0.0.1:9 "hello" 2>&1) || true
     kill "$started"
     wait "$started" || true
