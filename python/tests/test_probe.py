@@ -151,7 +151,6 @@ class Pages(unittest.TestCase):
     def test_scrapers_that_hang(self) -> None:
         silent = mock.patch("yarrowdoor.command.scrape._Handler.timeout", limit(4.0))
         with silent, self.page() as (_, where), contextlib.ExitStack() as stack:
-            # More than the backlog takes at once: a system asks again after 1 s, 3 s and 7 s.
             hanging = [stack.enter_context(socket.create_connection(where, limit(10.0))) for _ in range(60)]
             for number, it in enumerate(hanging):
                 with contextlib.suppress(OSError):  # It is one of those that were closed for others.
@@ -163,6 +162,18 @@ class Pages(unittest.TestCase):
             with contextlib.suppress(ConnectionError):
                 self.assertEqual(hanging[0].recv(100), b"")
         self.assertLess(time.monotonic() - begun, limit(2.0))  # Nor is its end waited for.
+
+    def test_many_that_come_at_once_all_get_in(self) -> None:
+        """Also before one is taken: a system asks again after 1 s, 3 s and 7 s where the backlog is full."""
+        page = Page(Address("127.0.0.1", 0))
+        page.show("text\n")
+        url = urllib.parse.urlsplit(page.url)
+        where = Address(str(url.hostname), int(url.port or 0))
+        with contextlib.ExitStack() as stack:
+            for _ in range(60):
+                stack.enter_context(socket.create_connection(where, 0.9))
+            with page:
+                self.assertEqual(self.get(where)[2], b"text\n")
 
     def test_a_scraper_that_is_silent_is_left(self) -> None:
         with mock.patch("yarrowdoor.command.scrape._Handler.timeout", 0.2), self.page() as (_, where):

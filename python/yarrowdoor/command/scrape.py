@@ -56,6 +56,8 @@ class _Handler(http.server.BaseHTTPRequestHandler):
 
 class _Server(socketserver.ThreadingMixIn, http.server.HTTPServer):
     daemon_threads = True
+    # Of more than these the system drops the first packet, which a scraper sends again after a second, and then after two.
+    request_queue_size = 128
     page = ""
 
     def __init__(self, listen: Address) -> None:
