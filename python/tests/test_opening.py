@@ -167,7 +167,7 @@ class Ending(unittest.IsolatedAsyncioTestCase):
     async def test_a_server_that_dies(self) -> None:
         endpoint = await self.serve()
         told: List[Any] = []
-        async with TurnClient(endpoint.uri, "user", "pass", clock=fast(100)) as relay:
+        async with TurnClient(endpoint.uri, "user", "pass", clock=fast(200)) as relay:
             relay.on_lost = told.append
             await relay.permit("10.1.0.1")
             endpoint.server.is_dead = True

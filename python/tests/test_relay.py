@@ -114,7 +114,7 @@ class Returns(Case):
         """It shows at the next refresh."""
         endpoint = await self.serve(Restarting())
         for grants in (True, False):
-            relay, states = self.relay(endpoint, clock=fast(100), probe=1500, times=Times())
+            relay, states = self.relay(endpoint, clock=fast(200), probe=1500, times=Times())
             async with relay:
                 if grants:
                     await relay.permit(PEER[0])

@@ -108,12 +108,12 @@ class ThroughASocket(unittest.IsolatedAsyncioTestCase):
         def refuse(lost: object) -> None:
             raise KeyError(lost)
 
-        async with TurnClient(endpoint.uri, "user", "pass", clock=fast(100)) as relay:
+        async with TurnClient(endpoint.uri, "user", "pass", clock=fast(200)) as relay:
             relay.on_lost = refuse
             await relay.permit("10.1.0.1")
             endpoint.server.is_dead = True
             with self.assertRaises(Ended):
-                await asyncio.wait_for(relay.wait_closed(), 60)
+                await asyncio.wait_for(relay.wait_closed(), 120)
         self.assertEqual([type(it) for it in told], [KeyError])
 
     async def test_takers_that_are_cancelled_are_forgotten(self) -> None:
