@@ -126,7 +126,7 @@ def plain(text: str) -> str:
     text = re.sub(r"% of [\d,]+ lost|\d+ % of a", "% of N", text)
     text = re.sub(r"\b\d{10}:alice", "USER:alice", text)
     text = re.sub(r"\d{4}-\d\d-\d\d( \d\d:\d\d)?", "DATE", text)
-    return re.sub(r"(\d+\.\d+\.\d+\.\d+):(?!3478|5349)\d+", r"\1:PORT", text)
+    return re.sub(r"(\d+\.\d+\.\d+\.\d+):(?!(?:3478|5349)\b)\d+", r"\1:PORT", text)
 
 
 def blocks() -> List[Tuple[str, str]]:

@@ -46,6 +46,11 @@ class Page(unittest.TestCase):
     def test_a_run_of_each_is_on_the_page(self) -> None:
         self.assertEqual([it for it, _ in check_page.blocks()], [*check_page.RUNS])
 
+    def test_ports_that_are_drawn_are_left_out(self) -> None:
+        """Also those that begin as the usual ones do."""
+        for port, shown in (("3478", "3478"), ("34784", "PORT"), ("5349", "5349"), ("53490", "PORT")):
+            self.assertEqual(check_page.plain(f"at 127.0.0.1:{port}, for"), f"at 127.0.0.1:{shown}, for")
+
     def test_what_works(self) -> None:
         self.compare("all is well", "quota and nonce, if asked", "all transports", "echo", "bench", "load", "load up to a limit")
 
