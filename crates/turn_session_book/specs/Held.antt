@@ -1,0 +1,34 @@
+-- What the server has granted to a session.
+use Rattle.std.specs.Prelude.{Bool, true, if◌then◌else◌, List, [], ◌∷◌, ◌++◌, find, option_map, Option}
+use Rattle.std.specs.List.{list_any}
+use Rattle.turn_session_book.specs.First.{with_first, without_first}
+use Rattle.turn_session_book.specs.Keys.{same_key}
+use Rattle.turn_session_book.specs.declared.held.HeldGrant.{HeldGrant}
+use Rattle.turn_session_book.specs.declared.keys.Key.{Key}
+
+abbrev pub is_of : Key → HeldGrant → Bool
+is_of key g = same_key g.key key
+
+abbrev pub is_held : Key → List HeldGrant → Bool
+is_held key held = list_any (is_of key) held
+
+-- whether the grant of this key is kept, if there is one
+abbrev pub is_kept_in : Key → List HeldGrant → Option Bool
+is_kept_in key held = option_map (λ g. g.is_kept) (find (is_of key) held)
+
+abbrev pub held_grant : Key → Bool → HeldGrant
+held_grant key is_kept = record { key = key; is_kept = is_kept }
+
+-- a new grant is kept
+abbrev pub after_grant : Key → List HeldGrant → List HeldGrant
+after_grant key held = if is_held key held then held else held ++ held_grant key true ∷ []
+
+abbrev pub marked : Bool → HeldGrant → HeldGrant
+marked is_kept g = record g { is_kept = is_kept }
+
+abbrev pub with_mark : Key → Bool → List HeldGrant → List HeldGrant
+with_mark key is_kept held = with_first (is_of key) (marked is_kept) held
+
+-- the others
+abbrev pub without_grant : Key → List HeldGrant → List HeldGrant
+without_grant key held = without_first (is_of key) held

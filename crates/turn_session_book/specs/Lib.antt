@@ -1,0 +1,10 @@
+pub mod Addresses
+pub mod Book
+pub mod BookState
+pub mod First
+pub mod Held
+pub mod Keys
+pub mod Once
+pub mod OpenRequests
+pub mod Replies
+pub mod Rests

@@ -1,0 +1,96 @@
+//! The rows of a book.
+
+ghost use Rattle.std.specs.Prelude.{◌≡◌, IfOk, IsOk, IsSome, OnErr, OnOk, drop, slice_get};
+ghost use Rattle.turn_session_book.specs.Held.{is_held, with_mark};
+ghost use Rattle.turn_session_book.specs.OpenRequests.{after_request, first_waiting, request_for, ticket_for, with_hint, with_progress, without_last};
+ghost use Rattle.turn_session_book.specs.Rests.{rest_in_force};
+
+use crate::book::Book;
+use crate::events::Event;
+use crate::keys::Key;
+use crate::open_requests::{OpenRequest, Progress};
+use crate::replies::ErrorReply;
+use crate::rests::Rest;
+use std::alloc::AllocError;
+use turn_stun::instant::Instant;
+
+impl Book {
+    /// The request for this key that has no outcome yet.
+    pub fn request_of(&self, key: Key) -> Option<OpenRequest>
+        ensures { result ≡ request_for key self.now.requests }
+    {
+        self.requests.request_of(key)
+    }
+
+    /// Notes a request with this ticket behind the others, unless one for its key is under way. Returns the ticket under which its
+    /// outcome is reported: that of the request under way, if there is one.
+    ///
+    /// # Errors
+    ///
+    /// If memory allocation fails. Nothing changes then. No memory is needed if a request for the key is under way.
+    pub fn add(&mut self, ticket: u32, key: Key, progress: Progress) -> Result<u32, AllocError>
+        ensures ticket { IfOk result (λ given. given ≡ ticket_for ticket key self.old.requests) }
+        ensures ok { OnOk result (self.new ≡ record self.old { requests = after_request ticket key progress self.old.requests }) }
+        ensures err { OnErr result (self.new ≡ self.old) }
+        ensures free { IsSome (request_for key self.old.requests) → IsOk result }
+    {
+        self.requests.add(ticket, key, progress)
+    }
+
+    /// Forgets the last request: it was not made.
+    pub fn withdraw(&mut self)
+        ensures { self.new ≡ record self.old { requests = without_last self.old.requests } }
+    {
+        self.requests.withdraw();
+    }
+
+    /// The first request that waits.
+    pub fn first_waiting(&self) -> Option<OpenRequest>
+        ensures { result ≡ first_waiting self.now.requests }
+    {
+        self.requests.first_waiting()
+    }
+
+    /// The request for this key has come so far.
+    pub fn advance(&mut self, key: Key, progress: Progress)
+        ensures { self.new ≡ record self.old { requests = with_progress key progress self.old.requests } }
+    {
+        self.requests.advance(key, progress);
+    }
+
+    /// The client ignored this error response to the request for this key.
+    pub fn hint(&mut self, key: Key, error: ErrorReply)
+        ensures { self.new ≡ record self.old { requests = with_hint key error self.old.requests } }
+    {
+        self.requests.hint(key, error);
+    }
+
+    /// Whether this key was granted.
+    pub fn is_held(&self, key: Key) -> bool
+        ensures { result ≡ is_held key self.now.held }
+    {
+        self.held.is_held(key)
+    }
+
+    /// The caller keeps this key, or lets it go.
+    pub fn mark(&mut self, key: Key, is_kept: bool)
+        ensures { self.new ≡ record self.old { held = with_mark key is_kept self.old.held } }
+    {
+        self.held.mark(key, is_kept);
+    }
+
+    /// The rest of this key, if it has not ended.
+    pub fn rest_of(&self, key: Key, now: Instant) -> Option<Rest>
+        ensures { result ≡ rest_in_force key now self.now.rests }
+    {
+        self.rests.rest_of(key, now)
+    }
+
+    /// The oldest event that the caller has not polled.
+    pub fn next_event(&mut self) -> Option<Event>
+        ensures event { result ≡ slice_get self.old.events 0 }
+        ensures after { self.new ≡ record self.old { events = drop 1 self.old.events } }
+    {
+        self.events.pop_front()
+    }
+}

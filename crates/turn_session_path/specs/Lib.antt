@@ -1,0 +1,13 @@
+pub mod Asked
+pub mod Credentials
+pub mod FullStream
+pub mod Path
+pub mod PathDue
+pub mod PathPoll
+pub mod PathResponses
+pub mod Prober
+pub mod Probes
+pub mod Rounds
+pub mod Rows
+pub mod SocketErrors
+pub mod Suspicion
