@@ -1,0 +1,11 @@
+pub mod Answering
+pub mod Asking
+pub mod Drain
+pub mod Keeping
+pub mod Making
+pub mod Notes
+pub mod Polling
+pub mod Rows
+pub mod SessionState
+pub mod Settings
+pub mod Waiting

@@ -1,0 +1,18 @@
+-- The settings that a session has unless its caller changes them.
+use Rattle.std.specs.Prelude.{◌≡◌, ℕ, false, Option, Some, None}
+use Rattle.std.specs.Option.{option_map}
+use Rattle.std.specs.Duration.{as_nanos}
+use Rattle.turn_stun.specs.declared.transport.TransportType.{TransportType}
+use Rattle.turn_stun.specs.declared.transport.TransportType.TheVariants.{Udp, Tcp}
+use Rattle.turn_session.specs.declared.settings.SessionSettings.{SessionSettings}
+
+-- over a stream the path is checked every 15 s, over UDP never
+abbrev pub default_probe : TransportType → Option ℕ
+default_probe Udp = None
+default_probe Tcp = Some 15_000_000_000
+
+pub record AreDefault (transport : TransportType) (s : SessionSettings) : Type 0 where
+  pub probe : option_map as_nanos s.probe ≡ default_probe transport
+  pub checks_no_allocation : s.checks_allocation ≡ false
+  pub no_peer_is_idle : s.idle ≡ None
+  pub leaves_in_2_s : as_nanos s.leave_wait ≡ 2_000_000_000

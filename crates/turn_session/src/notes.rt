@@ -1,0 +1,80 @@
+//! What a session notes of its client.
+
+ghost use Rattle.std.specs.Prelude.{◌≡◌, OnErr, OnOk};
+ghost use Rattle.turn_session.specs.Notes.{new_notes, noted};
+
+use std::alloc::{AllocError, Global};
+use std::net::SocketAddr;
+use turn_client_api::TurnEvent;
+use turn_session_book::book::Book;
+use turn_session_book::keys::Key;
+use turn_session_book::replies::ErrorReply;
+use turn_stun::instant::Instant;
+use turn_types::TransportType;
+
+/// What a session notes of its client.
+#[derive(Debug, Drop)]
+pub struct Notes {
+    /// The requests, what was granted, what rests, and the events that the caller has not polled.
+    pub book: Book,
+    /// The transport that the server relays over, once it has granted an address.
+    pub relays: Option<TransportType>,
+    /// This client's address, as the server sees it.
+    pub mapped: Option<SocketAddr>,
+    /// The error response that was received last, if the events of the client that are to be noted may come from it.
+    pub reply: Option<ErrorReply>,
+}
+
+impl Notes {
+    /// Nothing has happened.
+    pub fn new(alloc: Global) -> Notes
+        ensures { result ≡ new_notes }
+    {
+        Notes {
+            book: Book::new(alloc),
+            relays: None,
+            mapped: None,
+            reply: None,
+        }
+    }
+
+    /// Notes an event of the client.
+    ///
+    /// # Errors
+    ///
+    /// If memory allocation fails. Nothing changes then.
+    pub fn note(&mut self, event: TurnEvent, now: Instant) -> Result<(), AllocError>
+        ensures ok { OnOk result (self.new ≡ noted event now self.old) }
+        ensures err { OnErr result (self.new ≡ self.old) }
+    {
+        match event {
+            TurnEvent::AllocationCreated(transport, relayed) => self.relayed(transport, relayed),
+            TurnEvent::AllocationCreateFailed(family) => self
+                .book
+                .family_failed(family, self.reply),
+            TurnEvent::PermissionCreated(_, ip) => self.book.granted(Key::Permission(ip)),
+            TurnEvent::PermissionCreateFailed(_, ip) => {
+                self.book.failed(Key::Permission(ip), self.reply, now)
+            }
+            TurnEvent::ChannelCreated(_, peer) => self.book.granted(Key::Channel(peer)),
+            TurnEvent::ChannelCreateFailed(_, peer) => {
+                self.book.failed(Key::Channel(peer), self.reply, now)
+            }
+            TurnEvent::TcpConnected(peer) => self.book.connected(Key::Connect(peer)),
+            TurnEvent::TcpConnectFailed(peer) => {
+                self.book.failed(Key::Connect(peer), self.reply, now)
+            }
+        }
+    }
+
+    /// The server granted this relayed address.
+    fn relayed(&mut self, transport: TransportType, relayed: SocketAddr) -> Result<(), AllocError>
+        ensures ok { OnOk result (self.new ≡ noted (TurnEvent.AllocationCreated transport relayed) 0 self.old) }
+        ensures err { OnErr result (self.new ≡ self.old) }
+    {
+        self.book
+            .opened(relayed, self.mapped, self.relays.is_none())?;
+        self.relays = Some(transport);
+        Ok(())
+    }
+}
