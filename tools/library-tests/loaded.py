@@ -13,7 +13,8 @@ class Numbers(dict):
     """The numbers by their names without YARROWDOOR_."""
 
     def __init__(self, said):
-        super().__init__({name.removeprefix("YARROWDOOR_"): value for numbers in said["enums"].values() for name, value in numbers.items()})
+        numbers = [it for enum in said["enums"].values() for it in enum.items()]
+        super().__init__({name.removeprefix("YARROWDOOR_"): value for name, value in numbers})
 
     __getattr__ = dict.__getitem__
 

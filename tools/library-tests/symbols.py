@@ -1,8 +1,8 @@
 """usage: symbols.py LIBRARY JSON NAMES
 
 Calls each typed function of the shared library by its name, through ctypes alone, as a language does that finds functions at run
-time: the structs are made from JSON, which is made from the header. The exchange and its answers are those of docs/rattle/LINES.md. Each name
-of the file NAMES but yarrowdoor_call and yarrowdoor_look has to be called.
+time: the structs are made from JSON, which is made from the header. The exchange and its answers are those of docs/LINES.md. Each
+name of the file NAMES but yarrowdoor_call and yarrowdoor_look has to be called.
 """
 import ctypes
 import pathlib
@@ -42,7 +42,8 @@ def ipv4(text, port):
     return call("ipv4", *parts, ctypes.c_uint16(port))
 
 
-local, remote, peer, relayed = (ipv4(*it) for it in (("192.168.0.1", 1000), ("10.0.0.2", 2000), ("10.0.0.3", 9000), ("10.0.0.4", 40000)))
+PLACES = ("192.168.0.1", 1000), ("10.0.0.2", 2000), ("10.0.0.3", 9000), ("10.0.0.4", 40000)
+local, remote, peer, relayed = (ipv4(*it) for it in PLACES)
 client, answer, buffer = ctypes.c_void_p(), Answer(), (ctypes.c_uint8 * 1500)()
 ref, room = ctypes.byref, (buffer, ctypes.c_size_t(1500))
 
@@ -58,7 +59,7 @@ def transmit(now):
 
 
 def exchange():
-    """The exchange of docs/rattle/LINES.md: an allocation, a permission, and data both ways."""
+    """The exchange of docs/LINES.md: an allocation, a permission, and data both ways."""
     check("poll_transmit", transmit(0)[0], N.PACKET)
     check("recv", recv(0, 0), N.HANDLED)
     found, sent = transmit(50_000_000)
@@ -91,9 +92,6 @@ def others():
     check("relayed_address", call("relayed_address", client, 1, ref(answer)), N.NOTHING)
     check("permission", call("permission", client, 0, ref(relayed), 0, ref(answer)), N.ADDRESS)
     check("permission", (bytes(answer.peer.ip[:4]), answer.peer.port), (bytes((10, 0, 0, 3)), 0))
-    check("next_permission", call("next_permission", client, 0, ref(relayed), 0, ref(answer)), N.ADDRESS)
-    check("next_permission", (bytes(answer.peer.ip[:4]), answer.peer.port), (bytes((10, 0, 0, 3)), 0))
-    check("next_permission", call("next_permission", client, 0, ref(relayed), answer.id, ref(answer)), N.NOTHING)
     check("set_permission_kept", call("set_permission_kept", client, 0, ref(peer), 0, ref(answer)), N.DONE)
     check("set_permission_kept", call("set_permission_kept", client, 0, ref(peer), 2, ref(answer)), N.BAD_CALL)
     check("set_channel_kept", call("set_channel_kept", client, 0, ref(peer), 1, ref(answer)), N.REFUSED)
@@ -139,7 +137,8 @@ def without_a_client():
 without_a_client()
 settings = call("settings_of", 0, ref(local), ref(remote))
 check("settings_of", (settings.max_stale_nonces, settings.family, settings.request_cadence), (256, 4, 0))
-check("new", call("new", ref(settings), b"user", ctypes.c_size_t(4), b"pass", ctypes.c_size_t(4), bytes(32), ctypes.c_size_t(32), ref(client)), 0)
+user, password = (b"user", ctypes.c_size_t(4)), (b"pass", ctypes.c_size_t(4))
+check("new", call("new", ref(settings), *user, *password, bytes(32), ctypes.c_size_t(32), ref(client)), 0)
 exchange()
 others()
 call("free", client)

@@ -73,7 +73,8 @@ def main(host, port, user, password):
             took = now().value // 1_000_000
             print(f"ctypes: {took} ms until a wrong user name or password is named")
             return 0 if took < 1000 else 1
-        library.yarrowdoor_recv(client, N.UDP, ref(remote), ref(local), packet, ctypes.c_size_t(len(packet)), now(), *room, ref(answer))
+        given = packet, ctypes.c_size_t(len(packet))
+        library.yarrowdoor_recv(client, N.UDP, ref(remote), ref(local), *given, now(), *room, ref(answer))
     print(library.yarrowdoor_kind_name(answer.kind).decode())
     return 1
 

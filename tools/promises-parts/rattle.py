@@ -243,7 +243,8 @@ class Crate:
                 return []
             module = module.below[name][1]
         own = [it for it in module.types + module.functions if it.name == names[-1] and not getattr(it, "owner", "")]
-        return own or [it for other in module.used() if other[-1] == names[-1] and other != names for it in self.found(module, other)]
+        others = [it for it in module.used() if it[-1] == names[-1] and it != names]
+        return own or [it for other in others for it in self.found(module, other)]
 
     def path_of(self, module, item):
         """The path by which a user names an item, or the reader of the source one that is private."""

@@ -11,7 +11,9 @@ autodoc_preserve_defaults = True
 # A name between single backticks is code, as in Markdown.
 default_role = "code"
 html_theme = "alabaster"
-html_theme_options = {"description": "A formally verified TURN client", "fixed_sidebar": True, "page_width": "1200px", "sidebar_width": "300px"}
+html_theme_options = {
+    "description": "A formally verified TURN client", "fixed_sidebar": True, "page_width": "1200px", "sidebar_width": "300px",
+}
 html_sidebars = {"**": ["about.html", "localtoc.html", "searchbox.html"]}
 html_last_updated_fmt = None
 html_show_sphinx = False

@@ -23,6 +23,7 @@ for (const [run, number] of places) {
 done(found);
 """
 
+
 class Runs(unittest.TestCase):
     def test_each_run_gets_the_answers_of_its_transcript(self):
         page, runs = browser(), list(tool("web").runs())

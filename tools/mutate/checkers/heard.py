@@ -11,7 +11,8 @@ from .lines import address_in, bytes_in
 def is_reported(one, peer):
     """Whether the input is a Data indication with an ICMP report about this peer (RFC 8656, section 11.6)."""
     message = one.message
-    return message is not None and message.kind == stun.INDICATION and message.values(stun.ICMP) and peer in message.addresses(stun.PEER)
+    is_icmp = message is not None and message.kind == stun.INDICATION and message.values(stun.ICMP)
+    return is_icmp and peer in message.addresses(stun.PEER)
 
 
 def may_carry(one, peer, held):
