@@ -71,7 +71,8 @@ def check_other_library() -> None:
     try:
         ctypes.CDLL(named)
     except OSError as error:
-        sys.exit(f"there is no library for C ({error}): run tools/library, or let YARROWDOOR_LIB name one, or YARROWDOOR_DIST its "
+        sys.exit(f"there is no library for C ({error}): run tools/library, "
+                 "or let YARROWDOOR_LIB name one, or YARROWDOOR_DIST its "
                  "folder")
 
 
@@ -122,7 +123,8 @@ def check_processor(proof: str) -> None:
     """Ends where the library is for some processors of its kind alone."""
     found = re.search(r"^processor: (.*)$", proof, re.M)
     if found is not None and found[1] not in BASELINE:
-        sys.exit(f"the library is for {found[1]}, and a wheel is for each processor of its kind: run tools/library without --cpu")
+        sys.exit(f"the library is for {found[1]}, and a wheel is for each processor of its kind: "
+                 "run tools/library without --cpu")
 
 
 def sources() -> Dict[str, bytes]:

@@ -111,7 +111,8 @@ class Installed(unittest.TestCase):
                 self.assertNotEqual(ran.returncode, 0)
                 said = [it.strip() for it in ran.stdout.splitlines() if "there is no library for C" in it]
                 self.assertEqual(len(said), 1, ran.stdout)
-                self.assertRegex(said[0], r"^there is no library for C \(.*\): run tools/library, or let YARROWDOOR_LIB name one")
+                wanted = r"^there is no library for C \(.*\): run tools/library, or let YARROWDOOR_LIB name one"
+                self.assertRegex(said[0], wanted)
                 self.assertNotIn("Traceback", ran.stdout)
 
     def test_sources_beside_a_dist(self) -> None:

@@ -18,8 +18,8 @@ SHORT = 60
 
 HEAD = """# Promises
 
-What is proved of each function, and the wrong bodies that show it. `tools/promises --page` makes this page from the contracts, the
-first sentences of doc comments, and the lines `promise` of edits. `docs/GUARANTEES.md` has the promises of whole runs, and says
+What is proved of each function, and the wrong bodies that show it. `tools/promises --page` makes this page from the contracts,
+the first sentences of doc comments, and the lines `promise` of edits. `docs/GUARANTEES.md` has the promises of whole runs, and says
 what the others mean together, and what they do not say.
 
 Each row has a function by the path by which its caller names it, with a link to its file. A caller that meets the clauses under
