@@ -83,7 +83,7 @@ class Python(OneByOne):
         env = {"YARROWDOOR_LIB": os.environ.get("YARROWDOOR_LIB") or f"{DIST}/libyarrowdoor.so.0", "PYTHONPATH": ""}
         found = run(room / "python", [sys.executable, "-B", *UNITTEST, test], env=env, seconds=600)
         # What a test leaves behind may be printed after its summary.
-        summary = [it for it in found.said.splitlines() if re.match(r"OK$|FAILED \(", it)][-1:] or ["no summary"]
+        summary = [it for it in found.said.splitlines() if re.match(r"(OK|FAILED)( \(|$)", it)][-1:] or ["no summary"]
         return verdict((found.status, summary) == (0, ["OK"]), summary[0].startswith("FAILED"), f"{test}: {summary[0]}")
 
 
