@@ -1,7 +1,7 @@
 /* SPDX-License-Identifier: MIT OR Apache-2.0 */
 /* The memory of the proved functions: that of malloc, of which each block is overwritten before it is given back. So no
    password, key or seed stays in the heap when a client is freed, and no copy that a growing list has left behind.
-   tools/library lets the heap of the proved functions call these in place of malloc, realloc and free. Nothing here is
+   tools/build/library lets the heap of the proved functions call these in place of malloc, realloc and free. Nothing here is
    proved. */
 #include <stddef.h>
 #include <stdint.h>

@@ -1,6 +1,6 @@
 /* SPDX-License-Identifier: MIT OR Apache-2.0 */
 /* The heap of the proved functions, over malloc, for a target for which the kit has no archive of it: what its liblibc_c.a
-   does, which tools/test-library compares. Nothing here is proved. */
+   does, which tools/check/test-library compares. Nothing here is proved. */
 #include <stdint.h>
 #include <stdlib.h>
 

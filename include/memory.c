@@ -1,7 +1,7 @@
 /* SPDX-License-Identifier: MIT OR Apache-2.0 */
 /* The five memory functions that compiled code calls, for the shared library for Linux, hidden in it. Those of a C library are
    chosen for the processor while a program starts (IFUNC), and glibc may bind a library that names no C library before that: it
-   would call a function that is not chosen yet. tools/library refuses an object in which one of these calls another or itself,
+   would call a function that is not chosen yet. tools/build/library refuses an object in which one of these calls another or itself,
    as a compiler makes of a loop that it knows for a memcpy. Nothing here is proved. */
 #include <stddef.h>
 #include <stdint.h>

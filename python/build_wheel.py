@@ -1,6 +1,6 @@
 """Makes wheels and source archives of the package: a build backend (PEP 517, PEP 660) that needs the standard library alone.
 
-A wheel holds the library for C where there is one in the folder `YARROWDOOR_DIST`, by default `../dist`, which tools/library
+A wheel holds the library for C where there is one in the folder `YARROWDOOR_DIST`, by default `../dist`, which tools/build/library
 makes: the library, its checksum (`yarrowdoor/SHA256SUMS`), and what proved it (`yarrowdoor/PROOF`). Else the package is made
 without it, where `YARROWDOOR_LIB` names one or the system has one: that one is used. Where no PROOF says that the library is
 proved, the version ends with `+unproved`. The same files make the same wheel. Of the folder of another platform, as
@@ -57,7 +57,7 @@ def dist() -> Optional[pathlib.Path]:
     folder = pathlib.Path(named or HERE.parent / "dist")
     if not (folder / LIBRARY).exists():
         if named:
-            sys.exit(f"there is no {folder / LIBRARY}: run tools/library")
+            sys.exit(f"there is no {folder / LIBRARY}: run tools/build/library")
         return None
     line = f"{hashlib.sha256((folder / LIBRARY).read_bytes()).hexdigest()}  {LIBRARY}"
     if line not in (folder / "SHA256SUMS").read_text().splitlines():
@@ -71,7 +71,7 @@ def check_other_library() -> None:
     try:
         ctypes.CDLL(named)
     except OSError as error:
-        sys.exit(f"there is no library for C ({error}): run tools/library, "
+        sys.exit(f"there is no library for C ({error}): run tools/build/library, "
                  "or let YARROWDOOR_LIB name one, or YARROWDOOR_DIST its "
                  "folder")
 
@@ -124,7 +124,7 @@ def check_processor(proof: str) -> None:
     found = re.search(r"^processor: (.*)$", proof, re.M)
     if found is not None and found[1] not in BASELINE:
         sys.exit(f"the library is for {found[1]}, and a wheel is for each processor of its kind: "
-                 "run tools/library without --cpu")
+                 "run tools/build/library without --cpu")
 
 
 def sources() -> Dict[str, bytes]:
@@ -234,7 +234,7 @@ def main() -> None:
     if len(sys.argv) != 2:
         sys.exit(__doc__)
     if dist() is None:
-        sys.exit(f"there is no {HERE.parent / 'dist' / LIBRARY}: run tools/library, or set YARROWDOOR_DIST")
+        sys.exit(f"there is no {HERE.parent / 'dist' / LIBRARY}: run tools/build/library, or set YARROWDOOR_DIST")
     pathlib.Path(sys.argv[1]).mkdir(parents=True, exist_ok=True)
     print(build_wheel(sys.argv[1]))
 

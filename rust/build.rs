@@ -1,4 +1,4 @@
-//! Links the library that `tools/library` builds: that in the folder `YARROWDOOR_DIST`; else that in `dist`, at the top of the
+//! Links the library that `tools/build/library` builds: that in the folder `YARROWDOOR_DIST`; else that in `dist`, at the top of the
 //! repository, or for another target than this machine's that in a folder below it; else that in `lib`, beside this package in
 //! a tarball; else the one that pkg-config finds.
 //!
@@ -26,7 +26,7 @@ fn main() {
     }
 }
 
-/// Where `tools/library` puts the library of a target. C libraries do not count: it serves each of them.
+/// Where `tools/build/library` puts the library of a target. C libraries do not count: it serves each of them.
 pub(crate) fn dist(top: &Path, host: &str, target: &str) -> PathBuf {
     let system_of = |triple: &str| {
         let processor = triple.split('-').next().unwrap_or_default().to_owned();
@@ -66,7 +66,7 @@ pub(crate) fn instructions(
         lines.extend(flags.split_whitespace().filter_map(instruction));
     } else {
         let what =
-            "no library to link: tools/library builds it, or YARROWDOOR_DIST names its folder";
+            "no library to link: tools/build/library builds it, or YARROWDOOR_DIST names its folder";
         lines.push(format!("warning={what}"));
     }
     lines

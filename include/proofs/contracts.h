@@ -1,6 +1,6 @@
 /* SPDX-License-Identifier: MIT OR Apache-2.0 */
 /* What the functions of yarrowdoor.h that make a call pass on to the two exports, as contracts in ACSL, the language of Frama-C.
-   The header has no annotation: a function is declared here again, behind it. tools/prove-header proves each contract but those of
+   The header has no annotation: a function is declared here again, behind it. tools/check/prove-header proves each contract but those of
    yarrowdoor_call and yarrowdoor_look, whose bodies are the proved library's, and that of yarrowdoor_clear, which cleared.c shows.
 
    Nothing is known of `reaches` but that an export establishes it for the request that it was passed. So a function whose contract

@@ -1,4 +1,4 @@
-// Times calls of the client from JavaScript, as tools/benches/library/driver.c does from C: node bench/calls.js [ROUNDS]
+// Times calls of the client from JavaScript, as bench/library/driver.c does from C: node bench/calls.js [ROUNDS]
 //
 // A row's figure is the least of its batches, of which each takes 2 ms or more and ROUNDS (80 unless told otherwise) are made: in
 // each round one of each row, so that other work on the machine is spread over all rows. The length of what a call answers is read,

@@ -1,4 +1,4 @@
-// The numbers of the library, and the places in its structs: those of yarrowdoor.h, with which tools/numbers compares them.
+// The numbers of the library, and the places in its structs: those of yarrowdoor.h, with which tools/check/numbers compares them.
 
 /** What a call answers. */
 export const KIND = Object.freeze({

@@ -57,7 +57,7 @@ test("the archive has all that its files import, and nothing else but what it sa
     const room = await mkdtemp(path.join(tmpdir(), "yarrowdoor-package-"));
     try {
         const env = { ...process.env, YARROWDOOR_WASM: FOLDER };
-        await execute(path.join(TOP, "tools/npm-package"), [room], { env });
+        await execute(path.join(TOP, "tools/build/npm-package"), [room], { env });
         const [archive] = await readdir(room), folder = path.join(room, "package");
         await execute("tar", ["-xzf", archive], { cwd: room });
         const files = await below(folder), isCode = (file) => /^src\/.*\.js$|^types\/.*\.d\.ts$/.test(file);

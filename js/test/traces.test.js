@@ -6,7 +6,7 @@ import test from "node:test";
 import { library } from "./module.js";
 import { IN_PLACE, replay } from "./replay.js";
 
-/** A folder with `traces`, which tools/library-tests/traces.py draws, and `wanted`, what turn_replay answers to each. */
+/** A folder with `traces`, which include/tests/traces.py draws, and `wanted`, what turn_replay answers to each. */
 const FOLDER = process.env.YARROWDOOR_TRACES;
 
 test("each trace gets what turn_replay answers", { skip: FOLDER ? false : "YARROWDOOR_TRACES names no folder" }, async (t) => {

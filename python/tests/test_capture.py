@@ -19,8 +19,8 @@ from yarrowdoor.command.main import main
 
 from .coturn import IS_HERE, WHY, coturn
 
-TOOLS = pathlib.Path(__file__).resolve().parent.parent.parent / "tools"
-TRANSCRIPTS = TOOLS.parent / "transcripts"
+TOP = pathlib.Path(__file__).resolve().parent.parent.parent
+TOOLS, TRANSCRIPTS = TOP / "tools" / "draw", TOP / "transcripts"
 HAS_TSHARK = shutil.which("tshark") is not None
 NO_TSHARK = "tshark is not installed, which decodes captures"
 

@@ -62,7 +62,7 @@ class Installed(unittest.TestCase):
         return ran.stdout
 
     def dist(self) -> str:
-        """A folder as tools/library makes it, of the library at hand."""
+        """A folder as tools/build/library makes it, of the library at hand."""
         folder = self.room / "dist"
         folder.mkdir(exist_ok=True)
         shutil.copy(self.library, folder / LIBRARY)
@@ -111,7 +111,7 @@ class Installed(unittest.TestCase):
                 self.assertNotEqual(ran.returncode, 0)
                 said = [it.strip() for it in ran.stdout.splitlines() if "there is no library for C" in it]
                 self.assertEqual(len(said), 1, ran.stdout)
-                wanted = r"^there is no library for C \(.*\): run tools/library, or let YARROWDOOR_LIB name one"
+                wanted = r"^there is no library for C \(.*\): run tools/build/library, or let YARROWDOOR_LIB name one"
                 self.assertRegex(said[0], wanted)
                 self.assertNotIn("Traceback", ran.stdout)
 

@@ -46,11 +46,11 @@ class Exchanges(unittest.TestCase):
         self.assertEqual("".join(f"{it}\n" for it in replay(first)), answers)
         self.assertEqual("".join(f"{it}\n" for it in replay(longer)), answers_to_longer)
 
-    @unittest.skipUnless((ROOT / "tools" / "library-tests").exists(), "the sources are not here")
+    @unittest.skipUnless((ROOT / "include" / "tests").exists(), "the sources are not here")
     def test_the_traces_of_the_repository(self) -> None:
         program = pathlib.Path(os.environ.get("TURN_REPLAY") or ROOT / "crates" / "turn_replay" / "out" / "turn_replay")
         with tempfile.TemporaryDirectory() as room:
-            made = [sys.executable, str(ROOT / "tools" / "library-tests" / "traces.py"), room, "200"]
+            made = [sys.executable, str(ROOT / "include" / "tests" / "traces.py"), room, "200"]
             subprocess.run(made, check=True, stdout=subprocess.DEVNULL)
             compared = 0
             for trace in sorted(pathlib.Path(room, "traces").iterdir()):

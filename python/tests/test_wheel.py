@@ -208,7 +208,7 @@ class Sources(unittest.TestCase):
         for call in ("build_wheel", "build_editable"):
             ran = self.build(call, "/nowhere/libyarrowdoor.so.0")
             self.assertEqual(ran.returncode, 1)
-            self.assertRegex(ran.stderr, r"\Athere is no library for C \(.*\): run tools/library, or [^\n]*\n\Z")
+            self.assertRegex(ran.stderr, r"\Athere is no library for C \(.*\): run tools/build/library, or [^\n]*\n\Z")
 
     def test_a_library_elsewhere(self) -> None:
         library = os.environ.get("YARROWDOOR_LIB")

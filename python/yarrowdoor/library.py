@@ -34,7 +34,7 @@ class Library:
             new, call, free = loaded.yarrowdoor_new, loaded.yarrowdoor_call, loaded.yarrowdoor_free
             self._read_message, self._read_attribute = loaded.yarrowdoor_read_message, loaded.yarrowdoor_read_attribute
         except (OSError, AttributeError) as error:
-            why = f"the library for C is not loaded: {error}. A wheel has it; in the repository tools/library builds it"
+            why = f"the library for C is not loaded: {error}. A wheel has it; in the repository tools/build/library builds it"
             raise LibraryError(why) from None
         # No argtypes: values of ctypes are passed as they are, which takes half the time.
         new.restype = call.restype = self._read_message.restype = self._read_attribute.restype = ctypes.c_uint32

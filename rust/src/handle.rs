@@ -12,7 +12,7 @@ pub(crate) struct Handle {
 }
 
 // SAFETY: what the pointer leads to is memory of `malloc`, which this value alone owns, and which any thread may use and
-// free. The library has no other state: `tools/library` refuses one with variables. A call that may change the client
+// free. The library has no other state: `tools/build/library` refuses one with variables. A call that may change the client
 // overlaps no other, since it takes a `&mut self`. This is an argument, and no proof: Rattle does not know a client as `Send`.
 unsafe impl Send for Handle {}
 

@@ -1,7 +1,7 @@
 //! A TURN client that does no I/O (RFC 8656, 6062 and 6156): sockets and clock are the program's.
 //!
 //! This package gives the surface of the crate `turn-client-proto` 0.7.3, by its names, over the library for C that
-//! `tools/library` builds. The client in that library is proved; this package and its caller are not. It needs no other
+//! `tools/build/library` builds. The client in that library is proved; this package and its caller are not. It needs no other
 //! package.
 //!
 //! # Getting started

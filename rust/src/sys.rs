@@ -1,4 +1,4 @@
-//! The library for C, as `include/yarrowdoor.h` declares it. `tools/numbers` compares the numbers and the layout.
+//! The library for C, as `include/yarrowdoor.h` declares it. `tools/check/numbers` compares the numbers and the layout.
 
 use std::mem::{offset_of, size_of};
 

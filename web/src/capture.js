@@ -1,4 +1,4 @@
-// The packets of a run as a capture that Wireshark opens, byte by byte what tools/lines-to-pcap writes: the format of libpcap with
+// The packets of a run as a capture that Wireshark opens, byte by byte what tools/draw/lines-to-pcap writes: the format of libpcap with
 // raw IP packets (LINKTYPE_RAW). No packet in it was seen on a network; the headers are made of the addresses.
 import { joined } from "./hex.js";
 

@@ -1,9 +1,10 @@
-"""The page in Chromium: made by tools/web, served on 127.0.0.1, and driven by the WebDriver protocol."""
+"""The page in Chromium: made by tools/build/web, served on 127.0.0.1, and driven by the WebDriver protocol."""
 import atexit
 import functools
 import importlib.machinery
 import importlib.util
 import pathlib
+import re
 import shutil
 import signal
 import sys
@@ -29,7 +30,7 @@ PATIENCE = 60
 @functools.lru_cache(maxsize=None)
 def tool(name):
     """The module of a program in tools/."""
-    loader = importlib.machinery.SourceFileLoader(name.replace("-", "_"), str(ROOT / "tools" / name))
+    loader = importlib.machinery.SourceFileLoader(re.sub("[-/]", "_", name), str(ROOT / "tools" / name))
     module = importlib.util.module_from_spec(importlib.util.spec_from_loader(loader.name, loader))
     sys.modules[loader.name] = module
     loader.exec_module(module)
@@ -43,8 +44,8 @@ class Browser:
         room = tempfile.TemporaryDirectory(prefix="test-web-")
         atexit.register(room.cleanup)
         self.folder = pathlib.Path(room.name) / "page"
-        tool("web").make(self.folder)
-        self.server = tool("web").server(self.folder, 0)
+        tool("build/web").make(self.folder)
+        self.server = tool("build/web").server(self.folder, 0)
         threading.Thread(target=self.server.serve_forever, daemon=True).start()
         self.url = f"http://127.0.0.1:{self.server.server_address[1]}/"
         self.driver = webdriver.Chrome(service=Service(shutil.which("chromedriver")), options=self.options(room.name))

@@ -9,7 +9,7 @@ PROGRAM = os.environ.get("TURN_REPLAY") or str(ROOT / "crates" / "turn_replay" /
 
 def check_by_replay(test):
     """The answers that are shown are those of turn_replay to the lines of the page. Without the program nothing is compared, which
-    tools/test-web says."""
+    tools/check/test-web says."""
     if not os.access(PROGRAM, os.X_OK):
         return
     page = browser()

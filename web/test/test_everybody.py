@@ -183,7 +183,7 @@ class Everybody(unittest.TestCase):
         try:
             self.page.driver.get((self.page.folder / "index.html").as_uri())
             self.page.until("return document.getElementById('unstarted').checkVisibility({ visibilityProperty: true })")
-            self.assertIn("Run tools/web --serve, and open http://127.0.0.1:8656/", self.page.text("unstarted"))
+            self.assertIn("Run tools/build/web --serve, and open http://127.0.0.1:8656/", self.page.text("unstarted"))
             self.page.driver.execute_cdp_cmd("Emulation.setScriptExecutionDisabled", {"value": True})
             self.page.driver.get(self.page.url)
             shown = [it.text for it in self.page.driver.find_elements("css selector", "noscript p")]

@@ -26,7 +26,7 @@ done(found);
 
 class Runs(unittest.TestCase):
     def test_each_run_gets_the_answers_of_its_transcript(self):
-        page, runs = browser(), list(tool("web").runs())
+        page, runs = browser(), list(tool("build/web").runs())
         page.open()
         cases = [(run["name"], number, case) for run in runs for number, case in enumerate(run["cases"])]
         for start in range(0, len(cases), 40):
@@ -56,7 +56,7 @@ class Runs(unittest.TestCase):
     def test_each_step_of_the_longest_run_is_shown_within_100_ms(self):
         # What the page's thread works from the click until the state after the step is shown: other work on the machine does not count.
         page = browser()
-        longest = max(tool("web").runs(), key=lambda run: len(run["cases"][0]["calls"]))
+        longest = max(tool("build/web").runs(), key=lambda run: len(run["cases"][0]["calls"]))
         count = len(longest["cases"][0]["calls"])
         self.assertGreater(count, 250)
         page.open(f"#run={longest['name']}")

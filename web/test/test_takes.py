@@ -22,7 +22,7 @@ class Takes(unittest.TestCase):
 
     def test_lines_are_those_of_the_transcript(self):
         self.page.open(f"#run={EXCHANGE}")
-        (case,) = tool("transcripts").cases_of(pathlib.Path(ROOT / "transcripts" / f"{EXCHANGE}.txt"))
+        (case,) = tool("check/transcripts").cases_of(pathlib.Path(ROOT / "transcripts" / f"{EXCHANGE}.txt"))
         self.assertEqual(self.page.driver.execute_script("return document.getElementById('lines').value"), case.trace().decode())
 
     def test_lines_and_link_are_copied(self):
@@ -139,7 +139,7 @@ class Takes(unittest.TestCase):
         for name in CAPTURED:
             with self.subTest(name), tempfile.TemporaryDirectory() as room:
                 wanted = pathlib.Path(room) / "wanted.pcap"
-                tool("lines-to-pcap").main([str(ROOT / "transcripts" / f"{name}.txt"), str(wanted)])
+                tool("draw/lines-to-pcap").main([str(ROOT / "transcripts" / f"{name}.txt"), str(wanted)])
                 self.page.open(f"#run={name}")
                 self.assertEqual(self.capture(), wanted.read_bytes())
 

@@ -15,7 +15,7 @@
 //! - Where the answer is `ended`, a memory allocation has to fail in the call, and to end the client. The calls after it
 //!   are made on the client that has ended, and their answers say what is left of it.
 //!
-//! `tools/refuse` makes rows of transcripts, and runs them with each request for memory of the client refused in turn. A
+//! `tools/check/refuse` makes rows of transcripts, and runs them with each request for memory of the client refused in turn. A
 //! write of no bytes says where each of its calls begins and where it ends. From the crate's folder
 //!
 //! ```text

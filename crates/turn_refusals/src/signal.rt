@@ -1,4 +1,4 @@
-//! Where the calls of a client begin and end, for `tools/refuse`.
+//! Where the calls of a client begin and end, for `tools/check/refuse`.
 
 use std::io::Write;
 

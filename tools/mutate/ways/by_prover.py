@@ -164,7 +164,7 @@ def refused_by_frama_c(room: pathlib.Path, edit: Edit) -> Tuple[bool, str]:
             return True, "unseen: Frama-C proves the header alone"
         names = HELPERS.findall(before[file][:before[file].index(old)])
         with applied(edit, room):
-            found = run(room, ["tools/prove-header", "--only", names[-1] if names else "none"])
+            found = run(room, ["tools/check/prove-header", "--only", names[-1] if names else "none"])
     except BadEdit as error:
         return False, f"BAD EDIT: {error}"
     said = re.search(r"^prove-header: FAILED: (.*)$", found.said, re.M)

@@ -10,7 +10,7 @@ from ways.edit import TOP, BadEdit, Edit
 from ways.rooms import run
 
 DIST = pathlib.Path(os.environ.get("YARROWDOOR_DIST") or TOP / "dist").resolve()
-SHARED, C_TESTS = "tools/benches/shared", "tools/library-tests"
+SHARED, C_TESTS = "bench/shared", "include/tests"
 UNITTEST = ("-m", "unittest")
 
 
@@ -124,14 +124,14 @@ class JavaScript(OneByOne):
         wasm.mkdir(parents=True, exist_ok=True)
         for file in self.wasm.iterdir():
             (wasm / file.name).write_bytes(file.read_bytes())
-        found = run(room, ["tools/library-wasm", "--link"], env={"YARROWDOOR_WASM": str(wasm)})
+        found = run(room, ["tools/build/library-wasm", "--link"], env={"YARROWDOOR_WASM": str(wasm)})
         if found.status != 0:
             raise OSError(f"the modules are not linked: {found.said.strip()[-200:]}")
         return wasm
 
 
 class Page(OneByOne):
-    """Tests of the page, as tools/test-web takes them. One fails by an assertion."""
+    """Tests of the page, as tools/check/test-web takes them. One fails by an assertion."""
 
     def named(self, edit: Edit) -> List[str]:
         found = re.fullmatch(r"(\w+)\.(\w+)\.(\w+)", edit.seen)
@@ -142,7 +142,7 @@ class Page(OneByOne):
 
     def run(self, room: pathlib.Path, test: str, edit: Optional[Edit]) -> Result:
         env = {"YARROWDOOR_WASM": os.environ.get("YARROWDOOR_WASM") or str(DIST / "wasm")}
-        found = run(room, ["tools/test-web", test], env=env)
+        found = run(room, ["tools/check/test-web", test], env=env)
         said = re.findall(r"^AssertionError.*", found.said, re.M)
         passed = found.status == 0 and re.search(r"^Ran [1-9]", found.said, re.M) is not None
         return verdict(passed, found.status == 1 and bool(said), f"{test}: {said[0][:160] if said else found.said.strip()[-200:]}")

@@ -104,7 +104,7 @@ def ran(room: pathlib.Path, words: List[str], given: bytes = b"") -> Ran:
 def failed_transcripts(room: pathlib.Path, names: List[str]) -> Optional[List[str]]:
     """Which of these transcripts fail, or of all; None where a program does not compile."""
     files = [it for it in names if it != TRANSCRIPTS]
-    found = ran(room, ["tools/transcripts", "--try", *files])
+    found = ran(room, ["tools/check/transcripts", "--try", *files])
     if not re.search(r"^cases=\d", found.said, re.M):
         return None
     listed = re.findall(r"^(transcripts/\S+): (?!.*output=expected)", found.said, re.M)
