@@ -1,8 +1,8 @@
 """usage: symbols.py LIBRARY JSON NAMES
 
 Calls each typed function of the shared library by its name, through ctypes alone, as a language does that finds functions at run
-time: the structs are made from JSON, which is made from the header. The exchange and its answers are those of docs/rattle/LINES.md. Each
-name of the file NAMES but yarrowdoor_call and yarrowdoor_look has to be called.
+time: the structs are made from JSON, which is made from the header. The exchange and its answers are those of docs/rattle/LINES.md.
+Each name of the file NAMES but yarrowdoor_call and yarrowdoor_look has to be called.
 """
 import ctypes
 import pathlib

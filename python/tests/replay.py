@@ -1,4 +1,4 @@
-"""Runs a trace (docs/rattle/LINES.md) by `client.Client`, and gives the lines that turn_replay prints. A trace has no bad line here."""
+"""Runs a trace (docs/rattle/LINES.md) by `client.Client`, and gives the lines that turn_replay prints. No line is bad here."""
 import ipaddress
 from typing import Any, Callable, Dict, Iterator, List, Optional
 

@@ -61,7 +61,7 @@ class InItsOwnTime(unittest.TestCase):
         self.assertEqual(network.of(PermissionCreated), [])
 
     def most_at_once(self, **settings: Any) -> int:
-        """How many packets leave in one instant after 250 permissions were requested in another, each of which is granted in 20 ms."""
+        """How many packets leave in one instant after 250 permissions were requested at once. Each request is answered in 20 ms."""
         network = self.allocated(TestServer(), **settings)
         left: Counter[int] = Counter()
         carry = network.to_server
