@@ -105,7 +105,8 @@ def packed_settings(local: bytes, remote: bytes, way: int, relay_way: int, famil
     waits = (times.initial, times.longest, times.last, times.count, 1) if times else (0, 0, 0, 0, 0)
     try:
         return c.SETTINGS.pack(*waits, way, relay_way, *_two(families), *_two(signs), number(_ANONYMOUS, anonymous),
-                               max_stale_nonces, bool(timed_from_send), local, remote, pause or c.NO_PAUSE, keepalive, refresh_ahead)
+                               max_stale_nonces, bool(timed_from_send), local, remote, pause or c.NO_PAUSE, keepalive,
+                               refresh_ahead)
     except struct.error as error:
         raise ValueError(f"a number of the settings does not fit: {error}") from None
 
