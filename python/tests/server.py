@@ -4,6 +4,7 @@ What it does wrong is set by the test: a nonce that grows old, errors, silence. 
 """
 import hashlib
 import hmac
+import itertools
 import os
 import socket
 import struct
@@ -73,6 +74,7 @@ class Server:
         self.allocations: Dict[Where, Allocation] = {}
         self.answered: Dict[Tuple[Where, bytes], bytes] = {}
         self.nonce, self.nonce_since = b"nonce-0", 0.0
+        self._nonces = itertools.count(1)  # and no time: two requests may come within a millisecond
         self.is_dead = False
         self.answers_bindings = True
         self.stale = 0  # so many requests more are challenged, each with another nonce
@@ -85,7 +87,7 @@ class Server:
         if self.is_dead:
             return []
         if self.nonce_life is not None and now - self.nonce_since >= self.nonce_life:
-            self.nonce, self.nonce_since = b"nonce-%d" % int(now * 1000), now
+            self.nonce, self.nonce_since = b"nonce-%d" % next(self._nonces), now
         allocation = self.allocation_of(source, now)
         if data[0] >> 6 == 1:
             number, size = struct.unpack_from("!HH", data)
