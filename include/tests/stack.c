@@ -16,7 +16,7 @@ size_t bench_answer(const uint8_t *request, size_t len, uint8_t *room, size_t ro
 enum { STACK = 256 * 1024, PAINT = 0xa5, ROOM = 65556 };
 
 /* The most that a new client takes, and each other call. */
-enum { MOST_OF_NEW = 8 * 1024, MOST = 16 * 1024 };
+enum { MOST_OF_NEW = 40 * 1024, MOST = 16 * 1024 };
 
 static const uint64_t PAUSE = 50000000;
 

@@ -33,7 +33,7 @@ pub type TurnClientUdp = TurnClientOver<TurnClientUdpProtocol>;
 /// `State` of the client.
 #[derive(Debug, Drop)]
 pub struct TurnClientUdpProtocol {
-    control: Box<TurnClientProtocol>,
+    control: TurnClientProtocol,
 }
 
 impl Model for TurnClientUdpProtocol {
@@ -42,7 +42,7 @@ impl Model for TurnClientUdpProtocol {
 
     ghost Value = { State };
 
-    ghost view = { λ c. record c.control.value { streams = [] } };
+    ghost view = { λ c. record c.control { streams = [] } };
 }
 
 impl TurnClientUdp {
@@ -66,7 +66,7 @@ impl TurnClientUdp {
         requires { config.allocation_transport ≡ TransportType.Udp }
         ensures { IfOk result (λ client. client ≡ initial TransportType.Udp local remote config seed) }
     {
-        let control = TurnClientProtocol::boxed(
+        let control = TurnClientProtocol::new(
             alloc,
             TransportType::Udp,
             local,

@@ -18,29 +18,26 @@ impl TurnClientProtocol {
     /// A client that sends from `local` to the server at `remote`, and draws its transaction IDs from
     /// this seed. It has requested nothing yet.
     ///
-    /// It is in a box, since it has two kilobytes: as a value it would be copied on the stack by each function that it passes
-    /// through, several times.
-    ///
     /// RFC 8489, section 5, requires IDs that cannot be guessed. They are only as unpredictable as the
     /// seed is secret.
     ///
     /// # Errors
     ///
     /// `AllocError` if memory allocation fails.
-    pub fn boxed(
+    pub fn new(
         alloc: Global,
         transport: TransportType,
         local: SocketAddr,
         remote: SocketAddr,
         config: TurnConfig,
         seed: [u8; 32],
-    ) -> Result<Box<TurnClientProtocol>, AllocError>
-        ensures { IfOk result (λ client. client.value ≡ record (initial transport local remote config seed) { streams = [] }) }
+    ) -> Result<TurnClientProtocol, AllocError>
+        ensures { IfOk result (λ client. client ≡ record (initial transport local remote config seed) { streams = [] }) }
     {
         let auth = auth_for(alloc, &config)?;
         let families = SmallVec::from_slice(alloc, config.address_families())?;
         let timers = config.request_timers();
-        let client = TurnClientProtocol {
+        Ok(TurnClientProtocol {
             alloc,
             phase: Phase::New,
             families,
@@ -49,11 +46,7 @@ impl TurnClientProtocol {
             outbox: Outbox::new(alloc, transport, local, remote, timers, seed),
             challenges: 0,
             config,
-        };
-        match Box::new(alloc, client) {
-            Ok(client) => Ok(client),
-            Err(failed) => Err(failed.into()),
-        }
+        })
     }
 }
 

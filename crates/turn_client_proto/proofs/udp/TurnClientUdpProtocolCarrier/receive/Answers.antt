@@ -13,7 +13,7 @@ pub returns-clause-answer : goal.returns-clause-answer
 returns-clause-answer g c =
     let packet = c.args.transmit in
     let bytes = g.T.AsSlice.items packet.payload in
-    let was = c.self.inside.control.value in
+    let was = c.self.inside.control in
     let led = without-streams c.self.view_is c.datagram.new.self in
     let is = own-datagram packet.transport packet.from packet.to bytes c.args.self.now c.args.now c.requires.fit.carrier (sym c.is_own.ensures ∙ c.if-not-is_own.false) in
     elim c.match-datagram.branch [
@@ -27,7 +27,7 @@ pub returns-clause-after : goal.returns-clause-after
 returns-clause-after g c =
     let packet = c.args.transmit in
     let bytes = g.T.AsSlice.items packet.payload in
-    let was = c.self.inside.control.value in
+    let was = c.self.inside.control in
     let t = c.datagram.new.self in
     let is = own-datagram packet.transport packet.from packet.to bytes c.args.self.now c.args.now c.requires.fit.carrier (sym c.is_own.ensures ∙ c.if-not-is_own.false) in
     elim c.match-datagram.branch [
@@ -41,7 +41,7 @@ pub returns-clause-free : goal.returns-clause-free
 returns-clause-free g c =
     let packet = c.args.transmit in
     let bytes = g.T.AsSlice.items packet.payload in
-    let was = c.self.inside.control.value in
+    let was = c.self.inside.control in
     let takes_none = datagram-takes packet.transport packet.from packet.to bytes c.args.self.now c.requires.fit.carrier (sym c.is_own.ensures ∙ c.if-not-is_own.false) in
     elim c.match-datagram.branch [
       | in-Ok w ↦ rw w.result-is (λ takes. refl)

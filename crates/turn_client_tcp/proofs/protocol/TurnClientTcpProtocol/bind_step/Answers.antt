@@ -11,7 +11,7 @@ use Rattle.turn_client_tcp.proofs.protocol.TurnClientTcpProtocol.bind_step.Goals
 pub returns-clause-ok : goal.returns-clause-ok
 returns-clause-ok c =
     let x = c.self.inside.streams.list in
-    let was = c.self.inside.control.value in
+    let was = c.self.inside.control in
     let local = c.args.local in
     let left =
     c.bind_stream.ensures
@@ -28,4 +28,4 @@ pub returns-in_err-peer-clause-wanted : goal.returns-in_err-peer-clause-wanted
 returns-in_err-peer-clause-wanted c =
     let x = c.self.inside.streams.list in
     rw (← c.self.view_is)
-    (on-err _ (bind_memory-alike x c.args.local c.args.message.now c.self.inside.control.value ∙ c.in_err-peer.ensures.wanted))
+    (on-err _ (bind_memory-alike x c.args.local c.args.message.now c.self.inside.control ∙ c.in_err-peer.ensures.wanted))

@@ -12,9 +12,9 @@ use Rattle.turn_client_tcp.proofs.FrameLemmas.{message-is, ok-and, whole-IsChann
 use Rattle.turn_client_tcp.proofs.protocol.TurnClientTcpProtocol.frame.Goals as goal
 
 -- the step of the control machine, with the streams beside it
-step : (c : goal.After-message_unless_ignored) → both_with c.self.inside.streams.list (message_step c.in-Ok.message c.args.now c.self.inside.control.value) ≡ carried_step c.args.origin c.args.frame.now c.args.now c.args.self.now
+step : (c : goal.After-message_unless_ignored) → both_with c.self.inside.streams.list (message_step c.in-Ok.message c.args.now c.self.inside.control) ≡ carried_step c.args.origin c.args.frame.now c.args.now c.args.self.now
 step c =
-    message-frame c.self.inside.streams.list c.in-Ok.message c.args.frame.now c.args.now c.self.inside.control.value c.args.self.now c.in-Ok.ensures.found.0
+    message-frame c.self.inside.streams.list c.in-Ok.message c.args.frame.now c.args.now c.self.inside.control c.args.self.now c.in-Ok.ensures.found.0
     (message-is c.args.frame.now _ _ _ c.in-Ok.ensures.found.1) (c.requires.kind ∙ ap is_message_kind c.in-Message.is) c.self.view_is
     ∙ ap (λ origin. carried_step origin c.args.frame.now c.args.now c.args.self.now) (sym c.in-Control.is)
 
@@ -34,7 +34,7 @@ pub returns-in-Ok-clause-wanted : goal.returns-in-Ok-clause-wanted
 returns-in-Ok-clause-wanted c =
     on_err_weaker c.message_unless_ignored.result
     (λ wants. ap (λ origin. carried_takes_memory origin c.args.frame.now c.args.self.now) c.in-Control.is
-    ∙ message-memory c.self.inside.streams.list c.in-Ok.message c.args.frame.now c.self.inside.control.value c.args.self.now c.in-Ok.ensures.found.0
+    ∙ message-memory c.self.inside.streams.list c.in-Ok.message c.args.frame.now c.self.inside.control c.args.self.now c.in-Ok.ensures.found.0
     (message-is c.args.frame.now _ _ _ c.in-Ok.ensures.found.1) c.self.view_is wants)
     c.message_unless_ignored.ensures.wanted
 

@@ -101,7 +101,7 @@ returns g c =
 
     -- the client without the stream's bytes
     left : State
-    left = with_streams c.take_at.new.self.list c.self.inside.control.value
+    left = with_streams c.take_at.new.self.list c.self.inside.control
 
     out : left ≡ with_bytes c.in-Some.stream.local [] c.args.self.now
     out =

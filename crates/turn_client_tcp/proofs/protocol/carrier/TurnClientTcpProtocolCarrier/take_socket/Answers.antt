@@ -14,7 +14,7 @@ use Rattle.turn_client_tcp.proofs.protocol.carrier.TurnClientTcpProtocolCarrier.
 pub returns-in_default : goal.returns-in_default
 returns-in_default c =
     let x = c.self.inside.streams.list in
-    let was = c.self.inside.control.value in
+    let was = c.self.inside.control in
     let t = c.allocated_tcp_socket.new.self in
     let a = c.args in
     let r = c.allocated_tcp_socket.result in
@@ -26,7 +26,7 @@ returns-in_default c =
 pub returns-in_default-reserve : goal.returns-in_default-reserve
 returns-in_default-reserve c =
     let x = c.self.inside.streams.list in
-    let was = c.self.inside.control.value in
+    let was = c.self.inside.control in
     let a = c.args in
     let some = sym c.opens_at.ensures ∙ c.in-Some.is in
     let same = socket-alike x a.id a.five_tuple a.peer_addr a.local_addr a.now was in
@@ -36,7 +36,7 @@ returns-in_default-reserve c =
 pub returns-in-Err : goal.returns-in-Err
 returns-in-Err c =
     let x = c.self.inside.streams.list in
-    let was = c.self.inside.control.value in
+    let was = c.self.inside.control in
     let t = c.allocated_tcp_socket-2.new.self in
     let a = c.args in
     let said = allocated_tcp_socket_step a.id a.five_tuple a.peer_addr a.local_addr a.now was in
@@ -54,7 +54,7 @@ returns-in-Err c =
 pub returns-in-Ok-allocated_tcp_socket : goal.returns-in-Ok-allocated_tcp_socket
 returns-in-Ok-allocated_tcp_socket c =
     let x = c.self.inside.streams.list in
-    let was = c.self.inside.control.value in
+    let was = c.self.inside.control in
     let t = c.allocated_tcp_socket-2.new.self in
     let a = c.args in
     let said = allocated_tcp_socket_step a.id a.five_tuple a.peer_addr a.local_addr a.now was in
