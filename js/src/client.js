@@ -409,20 +409,26 @@ export class Client {
      */
     permissions(relayed, { transport } = {}) {
         const fields = { transport: this.#relay(transport), from: relayed };
-        return this.#list(CALL.PERMISSIONS, fields, (view, answer) => addressAt(view, answer + ANSWER.PEER).address);
+        return this.#list(CALL.NEXT_PERMISSION, fields, (view, answer) => addressAt(view, answer + ANSWER.PEER).address,
+            (view, answer) => view.getUint32(answer + ANSWER.ID, true));
     }
 
     /**
+     * What looks of a kind find, one after the other: at the place that the last one found was followed by, or by their numbers.
      * @template Item
      * @param {number} kind
      * @param {import("./calls.js").Fields} fields
      * @param {(view: DataView, answer: number) => Item} make
+     * @param {(view: DataView, answer: number, count: number) => number} next
      * @returns {Item[]}
      */
-    #list(kind, fields, make) {
+    #list(kind, fields, make, next = (view, answer, count) => count) {
         const found = [];
-        while (this.#calls.look(kind, { ...fields, id: found.length }) === KIND.ADDRESS) {
-            found.push(make(this.#calls.module.view, this.#calls.module.answer));
+        let id = 0;
+        while (this.#calls.look(kind, { ...fields, id }) === KIND.ADDRESS) {
+            const { view, answer } = this.#calls.module;
+            found.push(make(view, answer));
+            id = next(view, answer, found.length);
         }
         return found;
     }
