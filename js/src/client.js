@@ -410,7 +410,7 @@ export class Client {
     permissions(relayed, { transport } = {}) {
         const fields = { transport: this.#relay(transport), from: relayed };
         return this.#list(CALL.NEXT_PERMISSION, fields, (view, answer) => addressAt(view, answer + ANSWER.PEER).address,
-            (view, answer) => view.getUint32(answer + ANSWER.ID, true));
+            (_count, view, answer) => view.getUint32(answer + ANSWER.ID, true));
     }
 
     /**
@@ -419,16 +419,16 @@ export class Client {
      * @param {number} kind
      * @param {import("./calls.js").Fields} fields
      * @param {(view: DataView, answer: number) => Item} make
-     * @param {(view: DataView, answer: number, count: number) => number} next
+     * @param {(count: number, view: DataView, answer: number) => number} next
      * @returns {Item[]}
      */
-    #list(kind, fields, make, next = (view, answer, count) => count) {
+    #list(kind, fields, make, next = (count) => count) {
         const found = [];
         let id = 0;
         while (this.#calls.look(kind, { ...fields, id }) === KIND.ADDRESS) {
             const { view, answer } = this.#calls.module;
             found.push(make(view, answer));
-            id = next(view, answer, found.length);
+            id = next(found.length, view, answer);
         }
         return found;
     }
