@@ -288,8 +288,7 @@ static void bad_settings(const yarrowdoor_settings *good)
     }
     /* each bit of each reserved byte */
     for (size_t at = 0; at < sizeof(yarrowdoor_settings); at++) {
-        int is_reserved = at / 2 == offsetof(yarrowdoor_settings, reserved) / 2 ||
-                          at >= offsetof(yarrowdoor_settings, reserved_places) ||
+        int is_reserved = at >= offsetof(yarrowdoor_settings, reserved_places) ||
                           at == offsetof(yarrowdoor_settings, local) + offsetof(yarrowdoor_address, reserved) ||
                           at == offsetof(yarrowdoor_settings, remote) + offsetof(yarrowdoor_address, reserved);
         for (int bit = 0; is_reserved && bit < 8; bit++) {
@@ -299,6 +298,11 @@ static void bad_settings(const yarrowdoor_settings *good)
         }
     }
     yarrowdoor_settings s = *good;
+    for (uint32_t value = 2; value <= UINT16_MAX; value++) {
+        s.timed_from_send = (uint16_t)value;
+        no_client(&s, 4, 4, 32, YARROWDOOR_BAD_SETTINGS);
+    }
+    s = *good;
     s.allocation_transport = YARROWDOOR_TCP;
     no_client(&s, 4, 4, 32, YARROWDOOR_BAD_SETTINGS);
     s = *good;

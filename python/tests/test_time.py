@@ -2,6 +2,7 @@
 import unittest
 from collections import Counter
 from typing import Any, List
+from unittest import mock
 
 from yarrowdoor import Address, Times, TurnClient
 from yarrowdoor.client import (
@@ -65,10 +66,15 @@ class InItsOwnTime(unittest.TestCase):
         network = self.allocated(TestServer(), **settings)
         left: Counter[int] = Counter()
         carry = network.to_server
-        network.to_server = lambda data: (left.update([network.now]), carry(data))[1]  # type: ignore[method-assign]
-        for number in range(250):
-            network.client.create_permission(f"10.1.0.{number}", network.now)
-        network.run(60)
+
+        def counted(data: bytes) -> None:
+            left[network.now] += 1
+            carry(data)
+
+        with mock.patch.object(network, "to_server", counted):
+            for number in range(250):
+                network.client.create_permission(f"10.1.0.{number}", network.now)
+            network.run(60)
         self.assertEqual(len(network.of(PermissionCreated)), 250)
         return max(left.values())
 
