@@ -5,7 +5,7 @@ mod server;
 use server::{allocate, allocation, answer, at, challenge, grant, next, success, SIGNED};
 use std::net::{IpAddr, Ipv4Addr, SocketAddr};
 use std::time::{Duration, Instant};
-use yarrowdoor::api::TurnConfig;
+use yarrowdoor::api::{TurnConfig, TurnRecvRet};
 use yarrowdoor::prelude::*;
 use yarrowdoor::types::{AddressFamily, TransportType, TurnCredentials};
 use yarrowdoor::udp::TurnClientUdp;
@@ -88,11 +88,13 @@ fn each_relayed_address_is_listed() {
     config.add_address_family(AddressFamily::IPV6);
     let mut client = client(config);
     let first = next(&mut client, at(0)).unwrap();
-    answer(&mut client, &first, challenge(&first, 401, "nonce"), at(0));
+    let returned = answer(&mut client, &first, challenge(&first, 401, "nonce"), at(0));
+    assert!(matches!(returned, TurnRecvRet::Handled));
     let second = next(&mut client, at(0) + SIGNED).unwrap();
     let [v4, lifetime] = allocation("10.0.0.2:50000", 600);
     let granted = [v4, xor_relayed(relayed[1], &second.id), lifetime];
-    answer(&mut client, &second, success(&second, &granted), at(1));
+    let returned = answer(&mut client, &second, success(&second, &granted), at(1));
+    assert!(matches!(returned, TurnRecvRet::Handled));
     let listed: Vec<_> = client.relayed_addresses().collect();
     assert_eq!(listed, relayed.map(|address| (UDP, address)));
 }
