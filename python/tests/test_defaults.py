@@ -5,8 +5,7 @@ import pathlib
 import unittest
 from typing import Any, Dict, List, Mapping
 
-from yarrowdoor import Client, Relay, TurnClient, sync
-from yarrowdoor import layout as c
+from yarrowdoor import Client, Relay, TurnClient, layout as c, sync
 from yarrowdoor.library import load
 from yarrowdoor.settings import Times
 
