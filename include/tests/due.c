@@ -75,10 +75,13 @@ static void start(uint64_t keepalive)
     yarrowdoor_answer answer;
     settings.keepalive = keepalive;
     now = 0;
-    check(yarrowdoor_new(&settings, (const uint8_t *)"user", 4, (const uint8_t *)"pass", 4, seed, sizeof seed, &client) == 0, "new");
+    check(yarrowdoor_new(&settings, (const uint8_t *)"user", 4, (const uint8_t *)"pass", 4, seed, sizeof seed,
+                         &client) == 0,
+          "new");
     settle();
     check(yarrowdoor_bind_channel(client, YARROWDOOR_UDP, &with_channel, now, &answer) == YARROWDOOR_DONE, "a channel");
-    check(yarrowdoor_create_permission(client, YARROWDOOR_UDP, &without, now, &answer) == YARROWDOOR_DONE, "a permission");
+    check(yarrowdoor_create_permission(client, YARROWDOOR_UDP, &without, now, &answer) == YARROWDOOR_DONE,
+          "a permission");
     settle();
 }
 
@@ -88,7 +91,8 @@ static void receive(void)
     yarrowdoor_answer answer;
     uint8_t frame[4 + PAYLOAD] = {0x40, 0x00, PAYLOAD >> 8, PAYLOAD & 0xff};
     check(yarrowdoor_recv(client, YARROWDOOR_UDP, &server, &local, frame, sizeof frame, now, NULL, 0, &answer) ==
-              YARROWDOOR_PEER_DATA_RANGE, "data of a peer");
+              YARROWDOOR_PEER_DATA_RANGE,
+          "data of a peer");
 }
 
 static void call(void)
@@ -100,11 +104,13 @@ static void call(void)
     if (kind == 0) {
         receive();
     } else if (kind == 1) {
-        check(yarrowdoor_send_to(client, YARROWDOOR_UDP, peer, data, sizeof data, now, packet, sizeof packet, &answer) ==
-                  YARROWDOOR_PACKET, "send_to");
+        check(yarrowdoor_send_to(client, YARROWDOOR_UDP, peer, data, sizeof data, now, packet, sizeof packet,
+                                 &answer) == YARROWDOOR_PACKET,
+              "send_to");
     } else {
         check(yarrowdoor_send_head(client, YARROWDOOR_UDP, peer, sizeof data, now, packet, sizeof packet, &answer) ==
-                  YARROWDOOR_PACKET, "send_head");
+                  YARROWDOOR_PACKET,
+              "send_head");
     }
 }
 
@@ -145,11 +151,13 @@ int main(void)
         draw_calls();
         settle();
         told = wake_up();
-        check(yarrowdoor_create_permission(client, YARROWDOOR_UDP, &other, now, &answer) == YARROWDOOR_DONE, "a permission");
+        check(yarrowdoor_create_permission(client, YARROWDOOR_UDP, &other, now, &answer) == YARROWDOOR_DONE,
+              "a permission");
         check(told != NEVER && !is_as_told(told), "a request makes nothing due");
         start_of_delete = now;
         check(yarrowdoor_delete(client, now, &answer) == YARROWDOOR_DONE, "delete");
-        while (yarrowdoor_poll_transmit(client, now, packet, sizeof packet, &answer) != YARROWDOOR_PACKET || packet[1] != 4) {
+        while (yarrowdoor_poll_transmit(client, now, packet, sizeof packet, &answer) != YARROWDOOR_PACKET ||
+               packet[1] != 4) {
             now += MILLISECOND;
         }
         check(now - start_of_delete == 50 * MILLISECOND, "a REFRESH behind one request, at the default pause");
