@@ -223,8 +223,8 @@ typedef struct yarrowdoor_address {
 
 /* What a new client is and does. yarrowdoor_settings_of gives the usual ones. */
 typedef struct yarrowdoor_settings {
-    uint64_t wait_initial; /* from when a request is made to its second transmission, in nanoseconds; then doubled. The
-                              first one may be held back by the pause between requests, which counts */
+    uint64_t wait_initial; /* to the second transmission of a request, in nanoseconds, from its first one, or with
+                              timed_from_send 0 from when it is made; then doubled */
     uint64_t wait_max;     /* the longest wait between two transmissions, in nanoseconds */
     uint64_t wait_last;    /* the wait after the last transmission, in nanoseconds */
     uint32_t wait_count;   /* how often a request is transmitted over UDP in all; once where wait_initial is at most
@@ -240,11 +240,12 @@ typedef struct yarrowdoor_settings {
     uint16_t max_stale_nonces;     /* that are answered in a row; the next challenge ends the client. 0: nine, the
                                       default in Rust; yarrowdoor_settings_of sets 256 */
     uint16_t timed_from_send;      /* 1: a queued request waits for its response from when its first copy is
-                                      transmitted, and is not transmitted again before that. 0: from when it is made */
+                                      transmitted (RFC 8489, section 6.2.1). 0: from when it is made;
+                                      yarrowdoor_settings_of sets 1 */
     yarrowdoor_address local;      /* the client's address: that of the socket */
     yarrowdoor_address remote;     /* the server's address */
-    uint64_t request_cadence;      /* the pause between two requests, in nanoseconds. 0: 50 ms. YARROWDOOR_NO_PAUSE:
-                                      none */
+    uint64_t request_cadence;      /* the pause between two requests, in nanoseconds. 0: 50 ms; YARROWDOOR_NO_PAUSE:
+                                      none; yarrowdoor_settings_of sets 5 ms */
     uint64_t keepalive;            /* after so long without a packet a Binding indication keeps the path to the
                                       server alive, in nanoseconds; less than 1 s is taken as 1 s. 0: never. For a
                                       NAT 15 s are usual */
@@ -535,8 +536,9 @@ YARROWDOOR_INLINE const char *yarrowdoor_kind_name(uint32_t kind);
    no error it is "no error". */
 YARROWDOOR_INLINE const char *yarrowdoor_error_name(uint32_t error);
 
-/* The usual settings: an IPv4 address relayed over UDP, SHA-1, the waits of the RFC, and 256 stale nonces, since a server
-   answers each copy of a request with a challenge of its own (docs/REAL-SERVERS.md). */
+/* The usual settings: an IPv4 address relayed over UDP, SHA-1, the waits of the RFC, each from when a request is first
+   transmitted, 5 ms between two requests, and 256 stale nonces, since a server answers each copy of a request with a
+   challenge of its own (docs/REAL-SERVERS.md). */
 YARROWDOOR_INLINE yarrowdoor_settings yarrowdoor_settings_of(uint32_t transport, const yarrowdoor_address *local,
                                                              const yarrowdoor_address *remote);
 
@@ -554,11 +556,11 @@ YARROWDOOR_INLINE yarrowdoor_settings yarrowdoor_settings_of(uint32_t transport,
    password is wrong, with none. */
 YARROWDOOR_INLINE enum yarrowdoor_kind yarrowdoor_poll(yarrowdoor *client, uint64_t now, yarrowdoor_answer *answer);
 
-/* The next packet that is due. Requests start at least 50 ms apart (our choice; request_cadence of the settings), so that
-   an allocation with its challenge and a permission take 100 ms or more; retransmissions do not wait. The waits of a request
-   run from the call that makes it: over UDP, of more than ten that are made at once at the default, those that have not left
-   after 500 ms all leave then, without a pause, and once more in their turn, even if they are answered or have failed by
-   then. Refreshes wait behind what is queued. So make few at a time. YARROWDOOR_PACKET:
+/* The next packet that is due. Requests leave in the order of the calls, at least request_cadence of the settings apart;
+   retransmissions wait for no pause. With timed_from_send a request that has not left is neither retransmitted nor times
+   out. Without it the waits of a request run from the call that makes it: over UDP, those that have not left after 500 ms
+   all leave then, without a pause, and once more in their turn, even if they are answered or have failed by then. Either way
+   refreshes wait behind what is queued, and what was queued leaves also if nothing needs it any more. YARROWDOOR_PACKET:
    send the answer->len bytes in the buffer, and the answer->left ones behind them that yarrowdoor_read gives, over UDP as
    one datagram. 1,500 bytes hold the packets of usual servers, and YARROWDOOR_MAX_PACKET each packet. YARROWDOOR_NOTHING:
    none is due. YARROWDOOR_UNREAD_BYTES: read the rest of an earlier answer first. */
@@ -684,9 +686,9 @@ YARROWDOOR_INLINE enum yarrowdoor_kind yarrowdoor_tcp_closed(yarrowdoor *client,
 
 /* Requests that the server delete the allocations (RFC 8656, section 8). YARROWDOOR_DONE: poll and transmit until
    YARROWDOOR_CLOSED, for as long as you care to wait: where the server answers with an error other than 437 it
-   does not come. The pause between requests holds the REFRESH back behind each request that was made before it, by default
-   50 ms each: a caller that closes the socket at once leaves the relay to the server until its lifetime is over, and so calls
-   yarrowdoor_abandon instead. YARROWDOOR_REFUSED: YARROWDOOR_ERROR_NO_ALLOCATION. To give up before there is one, free the
+   does not come, and with timed_from_send not before the REFRESH was taken by yarrowdoor_poll_transmit. It leaves behind each
+   request that was made before it, one in each pause: a caller that closes the socket at once leaves the relay to the server
+   until its lifetime is over, and so calls yarrowdoor_abandon instead. YARROWDOOR_REFUSED: YARROWDOOR_ERROR_NO_ALLOCATION. To give up before there is one, free the
    client: what the server may still grant ends there by its lifetime. */
 YARROWDOOR_INLINE enum yarrowdoor_kind yarrowdoor_delete(yarrowdoor *client, uint64_t now, yarrowdoor_answer *answer);
 
@@ -852,6 +854,8 @@ YARROWDOOR_INLINE yarrowdoor_settings yarrowdoor_settings_of(uint32_t transport,
     settings.algorithm = YARROWDOOR_SHA1;
     settings.anonymous = YARROWDOOR_AUTO;
     settings.max_stale_nonces = 256;
+    settings.timed_from_send = 1;
+    settings.request_cadence = 5000000;
     settings.reserved_places[0] = yarrowdoor_abi_0 | yarrowdoor_0_1; /* 0, so that another library does not link */
     settings.local = *local;
     settings.remote = *remote;

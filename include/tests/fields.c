@@ -598,11 +598,13 @@ int main(void)
     check("the default limit", challenged_twice(&settings, 0), YARROWDOOR_NOTHING);
     check("the usual limit", challenged_twice(&settings, settings.max_stale_nonces), YARROWDOOR_NOTHING);
     check("the usual limit", settings.max_stale_nonces, 256);
+    check("timed from the first packet", settings.timed_from_send, 1);
     for (size_t size = 0; size < 200; size++) {
         small_packets(&settings, size);
     }
     /* so long after the first packet, which was sent at 0 */
-    check("the usual pause", (uint32_t)second_time(&settings, 0), 50000000);
+    check("the usual pause", (uint32_t)second_time(&settings, settings.request_cadence), 5000000);
+    check("the default pause", (uint32_t)second_time(&settings, 0), 50000000);
     check("a pause of 7 ms", (uint32_t)second_time(&settings, 7000000), 7000000);
     check("no pause", (uint32_t)second_time(&settings, YARROWDOOR_NO_PAUSE), 0);
     /* the lifetime is 1,000 s, from 50 ms on, when the last packet was sent */

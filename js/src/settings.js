@@ -21,9 +21,9 @@ import { putTime } from "./time.js";
  * SHA-256 does if the server offers it. `anonymous` hides the user name (section 14.4): `"required"` always, `"disabled"` never,
  * and `"auto"` never so far. The client answers `maxStaleNonces` challenges in a row, 1 to 65,535, and the next one ends it. Between
  * two requests lies a `pause`; with a `keepalive` above 0 the client sends something when it has sent nothing for so long; a grant
- * is refreshed `refreshAhead` before it expires. A request waits for its response from when it is made, also if it still waits in
- * the queue; with `timedFromSend` it does so from when its first packet is taken (RFC 8489, section 6.2.1). Transaction IDs are drawn from `seed`, 32 bytes that nobody else knows: random
- * ones by default.
+ * is refreshed `refreshAhead` before it expires. A request waits for its response from when its first packet is taken (RFC 8489,
+ * section 6.2.1); if `timedFromSend` is false, it does so from when it is made, also while it is queued. Transaction IDs are drawn
+ * from `seed`, 32 bytes that nobody else knows: random ones by default.
  * @typedef {{ readonly local: import("./address.js").AddressLike, readonly remote: import("./address.js").AddressLike,
  *     readonly username: string | Uint8Array, readonly credential: string | Uint8Array, readonly transport?: "udp" | "tcp",
  *     readonly allocation?: "udp" | "tcp", readonly families?: readonly (4 | 6)[],
@@ -120,7 +120,7 @@ export function putSettings(module, given) {
         numberOf(ANONYMOUS, given.anonymous ?? "auto", "anonymous")];
     words.forEach((word, index) => view.setUint32(at + SETTINGS.TRANSPORT + 4 * index, word, true));
     view.setUint16(at + SETTINGS.MAX_STALE_NONCES, maxStaleNonces, true);
-    view.setUint16(at + SETTINGS.TIMED_FROM_SEND, given.timedFromSend ? 1 : 0, true);
+    view.setUint16(at + SETTINGS.TIMED_FROM_SEND, given.timedFromSend ?? true ? 1 : 0, true);
     putAddress(bytes, view, at + SETTINGS.LOCAL, given.local, "local");
     putAddress(bytes, view, at + SETTINGS.REMOTE, given.remote, "remote");
     putPauses(view, at, given);

@@ -68,8 +68,8 @@ class Client:
 
     Between two requests lies a `pause`, in nanoseconds, or none where it is 0. With a `keepalive` above 0 the client sends
     something when it has sent nothing for so long, in nanoseconds. A permission and a channel are refreshed `refresh_ahead`
-    before they expire, in nanoseconds, at least a second. A request waits for its response from when it is made, also if it
-    still waits in the queue; with `timed_from_send` it does so from when its first packet is taken (RFC 8489, section 6.2.1).
+    before they expire, in nanoseconds, at least a second. A request waits for its response from when its first packet is taken
+    (RFC 8489, section 6.2.1); if `timed_from_send` is False, it does so from when it is made, also while it is queued.
 
     `anonymous` is `"auto"` (as the client sees the server offer it: never, so far), `"required"` (always) or `"disabled"` (never).
     `TypeError` where user or password is neither text nor bytes, or `times` is not `Times`.
@@ -79,7 +79,7 @@ class Client:
                  transport: str = "udp", allocation: str = "udp", families: Sequence[int] = (4,),
                  algorithms: Sequence[str] = ("sha256", "sha1"), anonymous: str = "auto", times: Optional[Times] = None,
                  max_stale_nonces: int = 9, pause: int = 50_000_000, keepalive: int = 0, refresh_ahead: int = 60_000_000_000,
-                 timed_from_send: bool = False, seed: Optional[bytes] = None, library: Optional[Calls] = None) -> None:
+                 timed_from_send: bool = True, seed: Optional[bytes] = None, library: Optional[Calls] = None) -> None:
         self._way, self._relay_way = number(TRANSPORTS, transport), number(TRANSPORTS, allocation)
         self._local, self._remote = packed(of_socket(local)), packed(of_socket(remote))
         settings = packed_settings(self._local, self._remote, self._way, self._relay_way, families, algorithms, anonymous, times,
