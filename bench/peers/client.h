@@ -6,7 +6,27 @@
 #include <stddef.h>
 #include <stdint.h>
 
-/* What a turn does: the rows of the table. README.md says how each is made. */
+/* What a turn does: the rows of the table. Turns use one channel, bound in the middle: the mean place for a client that searches a
+   list, and always in the processor's cache. Those of AROUND use another channel each, not in the order of binding.
+
+   FRAME_OUT   ChannelData out, payload copied into a buffer for the whole packet. yarrowdoor_send_to copies it. For libre memcpy
+               leaves room for a head, and udp_send goes through the client as the socket's helper; for coturn
+               stun_init_channel_message_str follows memcpy. pion's WriteTo makes a slice for each packet.
+   FRAME_HEAD  ChannelData out, payload in place: only the head is written, by libre and coturn before the payload, by
+               yarrowdoor_send_head into a buffer of its own, for sendmsg with parts.
+   FRAME_IN    ChannelData in. yarrowdoor_recv also compares the addresses of server and client, and returns the data's place.
+               libre's turnc_recv and pion's HandleInbound do not check the sender. libre moves its buffer's position; pion copies
+               the data into a queue, and ReadFrom copies it once more. coturn's stun_is_channel_message_str returns the number of
+               the channel, and the caller finds the peer.
+   SEND_OUT    A Send indication to another port of the permitted peer. coturn's functions copy the data. pion also requests a
+               channel whenever it sends to a new peer, which the server refuses for this port.
+   DATA_IN     A DATA indication from the channel's peer. yarrowdoor_recv checks the permission; libre and pion pass on data of
+               strangers, too. pion copies the message first.
+   POLL, TRANSMIT  what this library's caller calls on waking up with nothing to do. The others have timers of their own.
+
+   The handshake, which is timed apart, goes from no client to its relayed address, with one challenge, without the server's time
+   and without the client's end: the quickest of 300, never the first (pion then lists the machine's interfaces). pion does not
+   check the signature of a response, and hands responses between goroutines. coturn's is two requests and their responses. */
 enum task {
     FRAME_OUT,
     FRAME_HEAD,

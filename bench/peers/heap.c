@@ -1,4 +1,9 @@
-/* Counts what the heap holds: a shared library, for LD_PRELOAD. It is for programs that have one thread. */
+/* Counts what the heap holds: a shared library, for LD_PRELOAD. It is for programs that have one thread.
+
+   It counts calls of malloc and its like, the bytes that were requested and are not freed, and those that the C library holds for
+   them (malloc_usable_size: in brackets in the table). What is held is the difference between no client, after one was made and
+   freed, and one with so many channels, each with its permission. This library requests 16 bytes more for each block, to overwrite
+   it when it is freed. Libre keeps its timers in these bytes, too. */
 #define _GNU_SOURCE
 #include "heap.h"
 #include <malloc.h>

@@ -2,7 +2,9 @@
 
    Sends payloads of 1,200 bytes through a server to a peer that echoes them, until so many echoes have come: by the library, or
    by frames that are put together by hand on the channel that the library has bound. The latter is what a program without any
-   client would do, so what the library takes is the difference. Each echo has its number in front, and is looked at. */
+   client would do, so what the library takes is the difference. Each echo has its number in front, and is looked at; what is lost
+   is sent again, and at most 32 are on the way. It waits in recv, reads the clock once for each packet, and sends head and payload
+   from where they lie (yarrowdoor_send_head, writev). libre and pion wait in loops of their own, with further system calls. */
 #include "stream.h"
 #include "yarrowdoor.h"
 #include <stdlib.h>

@@ -7,6 +7,11 @@ copyright = "MIT or Apache-2.0"
 extensions = ["sphinx.ext.autodoc"]
 autodoc_member_order = "bysource"
 autodoc_typehints = "signature"
+# The types that the package names are shown by these names, and not in full.
+autodoc_type_aliases = {name: name for name in (
+    "AddressLike", "Buffer", "Connected", "CredentialsLike", "Pair", "Receiver", "SocketAddress", "SocketName", "Text",
+)}
+python_use_unqualified_type_names = True
 autodoc_preserve_defaults = True
 # A name between single backticks is code, as in Markdown.
 default_role = "code"
@@ -14,7 +19,7 @@ html_theme = "alabaster"
 html_theme_options = {
     "description": "A formally verified TURN client", "fixed_sidebar": True, "page_width": "1200px", "sidebar_width": "300px",
 }
-html_sidebars = {"**": ["about.html", "localtoc.html", "searchbox.html"]}
+html_sidebars = {"**": ["about.html", "searchbox.html", "localtoc.html"]}
 html_last_updated_fmt = None
 html_show_sphinx = False
 # The package has no links to other projects' pages.
