@@ -247,6 +247,7 @@ class RelayTransport(asyncio.DatagramTransport):
         self._lose(None)
 
     def is_closing(self) -> bool:
+        """Whether the transport is closing or closed."""
         return self._is_closing
 
     def get_write_buffer_size(self) -> int:
@@ -268,7 +269,9 @@ class RelayTransport(asyncio.DatagramTransport):
         self._count(0)
 
     def get_protocol(self) -> Any:
+        """The protocol that gets what peers send."""
         return self.protocol
 
     def set_protocol(self, protocol: Any) -> None:
+        """Gives what peers send to another protocol from now on."""
         self.protocol = protocol
