@@ -104,6 +104,8 @@ class Frames:
         return not self._front and len(piece) == 4 + (size + 3) // 4 * 4
 
     def messages(self, piece: bytes) -> Iterator[bytes]:
+        """The STUN messages that end in this piece of the stream. ChannelData is passed over; after a byte that begins no frame
+        there are none."""
         data, place = self._front + piece if self._front else piece, 0
         self._front = b""
         if self._is_broken:
