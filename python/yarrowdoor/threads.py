@@ -51,6 +51,7 @@ class ThreadInbox(Inbox):
             self._came.put((data, peer))
 
     def end(self) -> None:
+        """Nothing more comes: wakes up those that wait."""
         super().end()
         self.is_over = True
         self._came.put(None)
@@ -165,10 +166,12 @@ class ThreadClient(TurnClient):
 
     @property
     def unsent(self) -> int:
+        """How many packets to peers the socket did not take, from any thread."""
         return super().unsent + self._tally.sums()[2]
 
     @property
     def counters(self) -> Counters:
+        """All counts, with what other threads have sent."""
         found, (packets, size, _) = super().counters, self._tally.sums()
         return dataclasses.replace(found, packets_out=found.packets_out + packets, bytes_out=found.bytes_out + size)
 
