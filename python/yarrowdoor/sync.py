@@ -45,12 +45,21 @@ CLOSE_WAIT = 3.0
 class TurnClient:
     """A relayed address of a TURN server.
 
-    The arguments are as for `yarrowdoor.TurnClient`, but that a function in `credentials` is a plain one, and `timeout` is how many
-    seconds opening may take. Each call may be made in any thread, and in a handler of a signal.
+    Each call may be made in any thread, and in a handler of a signal.
 
     `on_lost`, `on_error`, `on_pause` and `receiver` are called in the thread that keeps the address. They must not block, and of
     this client they may call only what does not wait: `sendto`, `close`, `release`, `keep`, and what there is. Another one is a
     `RuntimeError` there. After a fork the client is the parent's: in the child each call raises `Ended`, and `close` does nothing.
+
+    :param uri: the server's (RFC 7065), as text or parsed: `turn:HOST`, `turn:HOST:PORT?transport=tcp`, `turns:HOST`.
+    :param user: the user name; text is encoded as UTF-8.
+    :param password: the password; text is encoded as UTF-8.
+    :param credentials: in place of user and password both as a pair, or a plain function that returns both: it is called when the
+        client is opened.
+    :param timeout: how many seconds opening may take.
+    :param queue: how many packets of peers may wait to be taken; a further one is dropped and counted.
+    :param receiver: a function that is called with data and peer, in place of the queue.
+    :param settings: further arguments of `yarrowdoor.TurnClient`.
     """
 
     @explained
