@@ -57,22 +57,31 @@ _REASONS = {1: "already-exists", 2: "no-allocation", 3: "no-permission", 4: "no-
 class Client:
     """A TURN client. It sends nothing until it is polled.
 
-    `local` and `remote` are the addresses of the socket and of the server. `user` and `password` are bytes, or text that is
-    encoded as UTF-8 (typed text has to be prepared before; RFC 8489, section 14.3). `transport` is that to the server, and
-    `allocation` that between server and peers: `"tcp"` (RFC 6062) needs a `transport` of `"tcp"`. `families` are those of
-    the relayed addresses: 4, 6 or both. `algorithms` are those that may sign requests (RFC 8489, sections 14.5 and
-    14.6): of both, SHA-256 does if the server offers it. `anonymous` hides the user name (section 14.4). The transaction IDs
-    are drawn from `seed`: 32 bytes that nobody else knows; the system's random numbers by default. The client answers
-    `max_stale_nonces` challenges in a row, 1 to 65,535, and the next one ends it (`docs/REAL-SERVERS.md` in the repository).
-    A client that nothing refers to any more is freed.
+    A client that nothing refers to any more is freed. `TypeError` if user or password is neither text nor bytes, or `times` is not
+    `Times`; `ValueError` for other values that are out of range.
 
-    Between two requests lies a `pause`, in nanoseconds, or none where it is 0. With a `keepalive` above 0 the client sends
-    something when it has sent nothing for so long, in nanoseconds. A permission and a channel are refreshed `refresh_ahead`
-    before they expire, in nanoseconds, at least a second. A request waits for its response from when it is made, also if it
-    still waits in the queue; with `timed_from_send` it does so from when its first packet is taken (RFC 8489, section 6.2.1).
-
-    `anonymous` is `"auto"` (as the client sees the server offer it: never, so far), `"required"` (always) or `"disabled"` (never).
-    `TypeError` where user or password is neither text nor bytes, or `times` is not `Times`.
+    :param local: the address of the socket to the server.
+    :param remote: the address of the server.
+    :param user: the user name, 1 to 508 bytes, or text that is encoded as UTF-8 (typed text has to be prepared before; RFC 8489,
+        section 14.3).
+    :param password: the password, up to 65,535 bytes, or text that is encoded as UTF-8.
+    :param transport: that to the server, `"udp"` or `"tcp"`.
+    :param allocation: that between server and peers: `"tcp"` (RFC 6062) needs a `transport` of `"tcp"`.
+    :param families: those of the relayed addresses: 4, 6 or both.
+    :param algorithms: those that may sign requests (RFC 8489, sections 14.5 and 14.6): `"sha256"`, `"sha1"` or both. Of both,
+        SHA-256 does if the server offers it.
+    :param anonymous: whether the user name is hidden (section 14.4): `"auto"` (as the client sees the server offer it: never, so
+        far), `"required"` (always) or `"disabled"` (never).
+    :param times: how long a request waits for its response, by default 39.5 s in all.
+    :param max_stale_nonces: how many challenges in a row are answered, 1 to 65,535; the next one ends the client
+        (`docs/REAL-SERVERS.md` in the repository).
+    :param pause: the least time between two requests, in nanoseconds. 0: none.
+    :param keepalive: after this many nanoseconds without a packet one is sent. 0: never.
+    :param refresh_ahead: how long before its expiry a permission or channel is refreshed, in nanoseconds, at least a second.
+    :param timed_from_send: whether a request waits for its response from when its first packet is taken (RFC 8489, section 6.2.1),
+        rather than from when it is made, which counts its time in the queue.
+    :param seed: the 32 bytes that transaction IDs are made from, which nobody else knows. None: the system's random numbers.
+    :param library: the library to use, by default the one that all share.
     """
 
     def __init__(self, local: AddressLike, remote: AddressLike, user: Union[str, bytes], password: Union[str, bytes], *,
