@@ -15,11 +15,11 @@ With one socket, the one to the server, `data_to` and `data_from` take less time
 data where it lies, for `socket.sendmsg`.
 
 Times are nanoseconds of a clock that never goes back, from 0 to 2^62. An address is what sockets have: `(IP, port)`, and for
-IPv6 `(IP, port, flow, scope)` where one of the two is not 0. Transports are `"udp"` and `"tcp"`.
+IPv6 `(IP, port, flow, scope)` if one of the two is not 0. Transports are `"udp"` and `"tcp"`.
 
 What an answer of the server means, and when, is specified by `docs/rattle/MACHINE.md` in the repository, and proved of the library.
 
-Errors: `ValueError` where the arguments are no call; `Refused` where the client refuses one; `MemoryError` where a memory
+Errors: `ValueError` if the arguments are no call; `Refused` if the client refuses one; `MemoryError` if a memory
 allocation failed, after which the client is valid and may have ended: poll it; `Busy` for a second thread at the same time.
 """
 from __future__ import annotations
@@ -214,18 +214,18 @@ class Client:
     def bind_channel(self, peer: AddressLike, now: int, *, transport: Optional[str] = None) -> None:
         """Requests a channel, and with it a permission (RFC 8656, section 12). An event reports the outcome.
 
-        `Refused`: `no-allocation`; `already-exists`, also where all 4,096 numbers are taken; `expired`, up to `until`.
+        `Refused`: `no-allocation`; `already-exists`, also if all 4,096 numbers are taken; `expired`, up to `until`.
         """
         self._ask(now, c.BIND_CHANNEL, transport=self._relay(transport), peer=packed(peer))
 
     def set_permission_kept(self, ip: str, is_kept: bool, *, transport: Optional[str] = None) -> None:
         """Says whether the permission of an IP address is refreshed, as each is at first. One that is not ends by itself, with its
-        event. `Refused` (`not-granted`) where there is none."""
+        event. `Refused` (`not-granted`) if there is none."""
         self._ask(0, c.SET_PERMISSION_KEPT, id=int(is_kept), transport=self._relay(transport), peer=packed_ip(ip))
 
     def set_channel_kept(self, peer: AddressLike, is_kept: bool, *, transport: Optional[str] = None) -> None:
         """Says whether the channel of a peer is refreshed, as each is at first. One that is not ends by itself, with its event; its
-        permission is another grant. `Refused` (`not-granted`) where there is none."""
+        permission is another grant. `Refused` (`not-granted`) if there is none."""
         self._ask(0, c.SET_CHANNEL_KEPT, id=int(is_kept), transport=self._relay(transport), peer=packed(peer))
 
     def tcp_connect(self, peer: AddressLike, now: int) -> None:
@@ -241,7 +241,7 @@ class Client:
 
         An event says that it is bound, or that it failed; there is none with None, nor where the connection ends before.
 
-        `Refused`: `no-allocation` where no such connection is offered, `already-exists` where another has this address.
+        `Refused`: `no-allocation` if no such connection is offered, `already-exists` if another has this address.
         """
         own = c.NO_ADDRESS if local is None else packed(local)
         self._ask(now, c.ALLOCATED_TCP_SOCKET, id=wanted.id, transport=number(TRANSPORTS, wanted.transport),
@@ -254,7 +254,7 @@ class Client:
 
     def delete(self, now: int) -> None:
         """Requests that the server delete the allocations (RFC 8656, section 8): poll and transmit until `Closed`, for as long as
-        you care to wait: where the server answers with an error other than 437 it does not come.
+        you care to wait: if the server answers with an error other than 437 it does not come.
 
         `Refused`: `no-allocation`.
         """
@@ -263,7 +263,7 @@ class Client:
     def abandon(self, now: int) -> Optional[Packet]:
         """Gives up all allocations at once: the packet that deletes them at the server, past the pause and what is queued, or None
         where there is none. The client has ended then: `poll` answers `Closed`. For a caller that closes its socket right away.
-        `LibraryError` where the library for C is older than this call."""
+        `LibraryError` if the library for C is older than this call."""
         if not getattr(self._library, "has_abandon", True):
             raise LibraryError("the library for C is older than this package: it has no call to abandon allocations")
         answer, data = self._handle.call(now, c.ABANDON)
@@ -306,7 +306,7 @@ class Client:
 
 
 def _refuse(answer: c.Answer) -> None:
-    """Raises `Refused` where the client refused the call."""
+    """Raises `Refused` if the client refused the call."""
     if answer.kind == c.REFUSED:
         raise Refused(_REASONS.get(answer.error, str(answer.error)), answer.time)
 
