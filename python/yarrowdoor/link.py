@@ -19,8 +19,8 @@ __all__ = ["DatagramLink", "Link", "LinkUser", "StreamLink"]
 MAX_DATAGRAM, BATCH = 65_535, 32
 # After so many datagrams that came alone it is looked whether another one waits: that there is none costs as much as to read one.
 ALONE = 8
-# A longer piece of the connection to the server is taken in slices of so many bytes, and after so many seconds the event loop goes
-# on in between: 256 KiB may be 65,536 messages.
+# A longer piece of the connection to the server is taken in slices of this many bytes, and after this many seconds the event loop
+# goes on in between: 256 KiB may be 65,536 messages.
 SLICE, AT_ONCE = 8_192, 0.005
 # So many messages of the client wait for a socket over UDP that is full. A further one is lost, as a network may lose it.
 MAX_LATE = 64
