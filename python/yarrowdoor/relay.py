@@ -98,7 +98,7 @@ class Relay(Told, Opened):
         check_seconds(above_zero={"open_timeout": open_timeout}, from_zero={})
         self._uri, self._waits, self._states, self._open_timeout = uri, waits, States(on_state), open_timeout
         given = {**settings, "times": times, "receiver": self._inbox.put}
-        # Nothing of this goes back to the relay, so that one that nobody has any more is collected.
+        # Nothing of this goes back to the relay, so that one without references is collected.
         make = functools.partial(_client, self._notices.counters, uri, given)
         client = make(Credentials("", ""))  # says what is wrong with the arguments
         if client.ssl is not None:
@@ -123,7 +123,7 @@ class Relay(Told, Opened):
     async def open(self) -> None:
         """Tries until the relay is up for the first time, or for `open_timeout` seconds: what entering does. It is called once.
 
-        Raises what ends a relay: `WrongCredentials`, `AllocationFailed`. `RuntimeError` where it was called before.
+        Raises what ends a relay: `WrongCredentials`, `AllocationFailed`. `RuntimeError` if it was called before.
         """
         self._revival.start()
         try:
@@ -148,7 +148,7 @@ class Relay(Told, Opened):
         self._revival.abort()
 
     async def wait_closed(self) -> None:
-        """Waits until the relay has ended. Raises `Ended` where it ended by itself, or was not opened; its text says why."""
+        """Waits until the relay has ended. Raises `Ended` if it ended by itself, or was not opened; its text says why."""
         await self._revival.wait()
         if self._has_failed():
             raise self._ending()
@@ -176,19 +176,19 @@ class Relay(Told, Opened):
 
     def states(self) -> AsyncIterator[State]:
         """The state now, and each change of it: `Up`, `Down`. At most 64 wait to be taken; then the oldest one is forgotten. It
-        ends when the relay is closed, and raises `Ended` where the relay ended by itself."""
+        ends when the relay is closed, and raises `Ended` if the relay ended by itself."""
         return self._states.changes()
 
     @property
     def address(self) -> Address:
-        """The relayed address, or the last one while the relay is down. `Ended` where there never was one."""
+        """The relayed address, or the last one while the relay is down. `Ended` if there never was one."""
         if self._states.address is None:
             raise self._revival.ending()
         return self._states.address
 
     @property
     def addresses(self) -> List[Address]:
-        """All relayed addresses, as `TurnClient.addresses`, or the last ones while the relay is down. `Ended` where there never was
+        """All relayed addresses, as `TurnClient.addresses`, or the last ones while the relay is down. `Ended` if there never was
         one."""
         if not self._revival.addresses:
             raise self._revival.ending()
@@ -201,7 +201,7 @@ class Relay(Told, Opened):
 
     @property
     def local_address(self) -> SocketAddress:
-        """The address of the socket to the server. `Ended` where the relay has ended, and `Refused` while it is down."""
+        """The address of the socket to the server. `Ended` if the relay has ended, and `Refused` while it is down."""
         return self._revival.current().local_address
 
     @property
@@ -222,7 +222,7 @@ class Relay(Told, Opened):
         await self._ask(lambda client: client.bind(where))
 
     async def check(self) -> Check:
-        """Asks the server for a sign of life, as `TurnClient.check`. While the relay is down there is none."""
+        """Asks the server whether it answers, as `TurnClient.check`. While the relay is down there is none."""
         self._revival.check()
         client = self._revival.client
         try:
