@@ -266,12 +266,12 @@ class Session(LinkUser):
             self.breaks(f"the connection to the server has ended: no answer from {self.server.uri} to a refresh", None)
 
     async def heard(self) -> None:
-        """Waits until the server has answered anything. `AllocationFailed` where it does not."""
+        """Waits until the server has answered anything. `AllocationFailed` if it does not."""
         if isinstance(self.state, Opening):
             await self.state.heard
 
     async def ready(self) -> None:
-        """Waits until there is a relayed address. `AllocationFailed` where there is none."""
+        """Waits until there is a relayed address. `AllocationFailed` if there is none."""
         if isinstance(self.state, Opening):
             await self.state.ready
         elif isinstance(self.state, Over):
@@ -373,13 +373,13 @@ class Session(LinkUser):
             self._loop.call_later(GRACE, self.link.abort)  # The server may have stopped reading.
 
     def open_client(self) -> Client:
-        """The client. `Ended` where it has ended."""
+        """The client. `Ended` if it has ended."""
         if isinstance(self.state, Over):
             raise self.ending()
         return self.client
 
     def usable_client(self) -> Client:
-        """The client, for a call of the user. `Ended` where it has ended, or gives its relayed address back."""
+        """The client, for a call of the user. `Ended` if it has ended, or gives its relayed address back."""
         if isinstance(self.state, (Leaving, Over)):
             raise self.ending()
         return self.client
