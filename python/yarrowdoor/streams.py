@@ -199,7 +199,7 @@ class Streams(LinkUser):
 
     def _close_unwanted(self, peer: Address) -> None:
         """Closes a bound stream if all who asked for it were cancelled. The server keeps one that is not bound for 30 s, and would
-        refuse another CONNECT to this peer so long (RFC 6062, section 5.2), so each is bound first."""
+        refuse another CONNECT to this peer until then (RFC 6062, section 5.2), so each is bound first."""
         stream = self._by_peer.get(peer)
         if stream is not None and stream.is_own and stream.is_bound and not stream.is_taken and not self._callers[peer]:
             stream.close()
