@@ -26,7 +26,7 @@ from .uri import TurnUri, parse
 
 __all__ = ["Lost", "TurnClient"]
 
-# A datagram over IPv4 carries so many bytes, and coturn reads no longer message of a stream: the connection then hangs.
+# The most bytes that a datagram over IPv4 carries, and coturn reads no longer message of a stream: the connection then hangs.
 MAX_MESSAGE = 65_507
 
 
@@ -160,7 +160,7 @@ class TurnClient(Told, Lifetime):
     def address(self) -> Address:
         """The relayed address: peers send to it, and see data come from it. It stays readable after the end.
 
-        `Ended` where there never was one.
+        `Ended` if there never was one.
         """
         found = self._phase.address if isinstance(self._phase, Session) else None
         if found is None:
@@ -171,7 +171,7 @@ class TurnClient(Told, Lifetime):
     def addresses(self) -> List[Address]:
         """All relayed addresses: with `family=(4, 6)` one of each family that the server has granted, else only `address`.
 
-        `Ended` where there never was one.
+        `Ended` if there never was one.
         """
         first = self.address
         return [first, *(it for it in self._session().addresses if it != first)]
@@ -193,8 +193,8 @@ class TurnClient(Told, Lifetime):
         """Lets an IP address send to the relayed address, and get data (RFC 8656, section 9). It is renewed until the end, also
         where it was released before.
 
-        Waits for the server's answer. `PermissionFailed`, `Ended`; `ValueError` where it is no IP address; `Refused`
-        (`no-allocation`) where it has another family than the relayed address.
+        Waits for the server's answer. `PermissionFailed`, `Ended`; `ValueError` if it is no IP address; `Refused`
+        (`no-allocation`) if it has another family than the relayed address.
         """
         host, session = checked_ip(ip), self._session()
         self._check_family(host)
@@ -205,8 +205,8 @@ class TurnClient(Told, Lifetime):
     async def bind(self, peer: AddressLike) -> None:
         """Gives a peer a channel, and a permission: its packets then have 4 bytes of header (RFC 8656, section 12).
 
-        Waits for the server's answer. `ChannelFailed`, `PermissionFailed`, `Ended`; `Refused` where the peer's earlier channel is
-        still reserved (`expired`), where all 4,096 numbers are taken (`already-exists`), and where it has another family than the
+        Waits for the server's answer. `ChannelFailed`, `PermissionFailed`, `Ended`; `Refused` if the peer's earlier channel is
+        still reserved (`expired`), if all 4,096 numbers are taken (`already-exists`), and if it has another family than the
         relayed address (`no-allocation`).
         """
         where, session = checked_peer(peer), self._session()
@@ -219,26 +219,25 @@ class TurnClient(Told, Lifetime):
     def release(self, peer: Union[str, AddressLike]) -> None:
         """Lets go what a peer was granted: with an address its channel, with an IP address its permission. It is used as before,
         and refreshed no more, so that it ends after 10 or 5 minutes, which neither `lost` nor `on_lost` reports. `Refused`
-        (`not-granted`) where there is none. Release both, or only the channel if another port uses the permission."""
+        (`not-granted`) if there is none. Release both, or only the channel if another port uses the permission."""
         self._session().grants.set_kept(checked_ip(peer) if isinstance(peer, str) else checked_peer(peer), False)
 
     def keep(self, peer: Union[str, AddressLike]) -> None:
-        """Takes `release` back, while the grant has not ended. `Refused` (`not-granted`) where there is none."""
+        """Takes `release` back, while the grant has not ended. `Refused` (`not-granted`) if there is none."""
         self._session().grants.set_kept(checked_ip(peer) if isinstance(peer, str) else checked_peer(peer), True)
 
     async def check(self) -> Check:
-        """Asks the server for a sign of life, and this client's address as it sees it now: a Binding request (RFC 8489, section 3),
-        which is sent three times over UDP, and is unanswered after 3.5 s. `Ended` where the client has ended."""
+        """Asks the server whether it answers, and this client's address as it sees it now: a Binding request (RFC 8489, section 3),
+        which is sent three times over UDP, and is unanswered after 3.5 s. `Ended` if the client has ended."""
         return await self._session().path.check()
 
     async def send(self, data: Buffer, peer: AddressLike) -> None:
-        """Sends data to a peer: requests its permission first, and waits where the socket is full.
+        """Sends data to a peer: requests its permission first, and waits if the socket is full.
 
-        It does not wait for the data to arrive. Where nothing was received since the last `send`, it lets the event loop do other
-        work first, so that a loop of sends does not keep it from reading. A peer whose permission the server has refused is left
-        alone for five seconds, then for ten, up to 80: until then `PermissionFailed` comes at once. `PermissionFailed`, `Ended`;
-        `Refused` (`no-allocation`) for another family than that of the relayed address; `ValueError` for data that does not fit
-        (`sendto`).
+        It does not wait for the data to arrive. If nothing was received since the last `send`, it lets the event loop do other work
+        first, so that a loop of sends does not keep it from reading. A permission that the server has refused is not requested again
+        for five seconds, then for ten, up to 80: until then `PermissionFailed` comes at once. `PermissionFailed`, `Ended`; `Refused`
+        (`no-allocation`) for another family than that of the relayed address; `ValueError` for data that does not fit (`sendto`).
         """
         session = self._session()
         # Before the data is sent, so that a send that is cancelled is none.
@@ -256,7 +255,7 @@ class TurnClient(Told, Lifetime):
             self.sendto(data, peer)
 
     def sendto(self, data: Buffer, peer: AddressLike) -> None:
-        """Sends data to a peer that has a permission, at once, as a datagram: where the socket is full, it is dropped.
+        """Sends data to a peer that has a permission, at once, as a datagram: if the socket is full, it is dropped.
 
         With its header a message has at most 65,507 bytes. So data has at most 65,500 for a peer with a channel, else 65,468,
         and for an IPv6 peer 65,456. `Refused` (`no-permission`; `no-allocation` for another family than that of the relayed
@@ -299,7 +298,7 @@ class TurnClient(Told, Lifetime):
     async def connect(self, peer: AddressLike) -> Pair:
         """Connects to a peer over TCP, by the server (RFC 6062, section 4.3). It needs `relay="tcp"`.
 
-        `PermissionFailed`, `ConnectFailed`, `Ended`; `Refused` where there is such a connection, or the peer has another family;
+        `PermissionFailed`, `ConnectFailed`, `Ended`; `Refused` if there is such a connection, or the peer has another family;
         `ValueError` with `relay="udp"`.
         """
         self._check_streams("connect")
