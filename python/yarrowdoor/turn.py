@@ -234,10 +234,11 @@ class TurnClient(Told, Lifetime):
     async def send(self, data: Buffer, peer: AddressLike) -> None:
         """Sends data to a peer: requests its permission first, and waits if the socket is full.
 
-        It does not wait for the data to arrive. If nothing was received since the last `send`, it lets the event loop do other work
-        first, so that a loop of sends does not keep it from reading. A permission that the server has refused is not requested again
-        for five seconds, then for ten, up to 80: until then `PermissionFailed` comes at once. `PermissionFailed`, `Ended`; `Refused`
-        (`no-allocation`) for another family than that of the relayed address; `ValueError` for data that does not fit (`sendto`).
+        It does not wait for the data to arrive. If nothing was received since the last `send`, it lets the event loop do other
+        work first, so that a loop of sends does not keep it from reading. A permission that the server has refused is not
+        requested again for five seconds, then for ten, up to 80: until then `PermissionFailed` comes at once.
+        `PermissionFailed`, `Ended`; `Refused` (`no-allocation`) for another family than that of the relayed address; `ValueError`
+        for data that does not fit (`sendto`).
         """
         session = self._session()
         # Before the data is sent, so that a send that is cancelled is none.
