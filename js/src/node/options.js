@@ -6,31 +6,7 @@ import { CLOCK } from "./clock.js";
 import { isUsed, lookupAll } from "./servers.js";
 import { parseUri } from "./uri.js";
 
-/**
- * `urls`, `username` and `credential` are those of WebRTC's RTCIceServer: one URI of RFC 7065 or several. A further one is tried
- * beside those before where these have not answered in 250 ms, and at once where they have failed. URIs of STUN servers are
- * skipped. `family` is that of the relayed address, which reaches peers of this family only. `allocation` is the transport between
- * server and peers: with `"tcp"` (RFC 6062) there are streams in place of datagrams, and URIs over UDP are skipped. `tls` are options of `tls.connect` for
- * `turns:`, as `ca`; certificates are checked unless they say otherwise. `times` is how long a request waits for its answer.
- * `queue` packets of peers wait to be taken where there is no listener for `message`; a further one is dropped and counted. The
- * path to the server is checked every `probe` milliseconds: three checks in a row without an answer, with nothing from the server
- * in between, end the relay; with 0 none is made, as by default over UDP, and 15,000 is the default over TCP and TLS. When nothing
- * was sent for `keepalive` milliseconds, something is, so that a NAT in between keeps its mapping; with 0 never. Between two
- * requests lies a `pause`, and permissions and channels are refreshed `refreshAhead` before they expire, in milliseconds. Sockets
- * to the server have `localAddress`, an IP address, and `localPort`, which `net.connect` names so: with such a port there is one
- * socket at a time. `socket` is a socket of the user, that the relay uses in place of one of its own, and closes: for a URI over
- * UDP one of `dgram`, which it connects unless it is, else a connected one of `net`, over which TLS is begun. `anonymous` hides the
- * user name (RFC 8489, section 14.4). `maxStaleNonces` challenges in a row are answered. `signal` gives up the opening. `library`
- * is the module, by default the one that all share.
- * @typedef {{ readonly urls: string | readonly string[], readonly username: string | Uint8Array,
- *     readonly credential: string | Uint8Array, readonly family?: 4 | 6, readonly allocation?: "udp" | "tcp",
- *     readonly tls?: import("node:tls").ConnectionOptions,
- *     readonly times?: import("../settings.js").Times, readonly queue?: number, readonly probe?: number, readonly keepalive?: number,
- *     readonly pause?: number, readonly refreshAhead?: number, readonly anonymous?: "auto" | "required" | "disabled",
- *     readonly maxStaleNonces?: number, readonly signal?: AbortSignal, readonly localAddress?: string, readonly localPort?: number,
- *     readonly socket?: import("node:dgram").Socket | import("node:net").Socket,
- *     readonly library?: import("../library.js").Library }} RelayOptions
- */
+/** @typedef {import("./relay-options.js").RelayOptions} RelayOptions */
 /**
  * For tests: another clock, and other addresses of names.
  * @typedef {{ readonly clock?: import("./clock.js").Clock, readonly lookup?: (host: string) => Promise<string[]> }} Hooks
