@@ -74,7 +74,7 @@ function seedOf(given) {
 }
 
 /**
- * Writes the settings, and gives the bytes beside them. TypeError and RangeError where one is none.
+ * Writes the settings, and gives the bytes beside them. TypeError and RangeError if one is none.
  * @param {import("./module.js").Module} module
  * @param {Settings} given
  */

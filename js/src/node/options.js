@@ -21,7 +21,7 @@ import { parseUri } from "./uri.js";
 const STUN = /^stuns?:/i;
 
 /**
- * A number from `least` on. RangeError where it is none.
+ * A number from `least` on. RangeError if it is none.
  * @param {unknown} value
  * @param {string} name
  * @param {number} least
@@ -34,7 +34,7 @@ function numberFrom(value, name, least) {
 }
 
 /**
- * The options with their defaults. TypeError and RangeError where one is none.
+ * The options with their defaults. TypeError and RangeError if one is none.
  * @param {RelayOptions & Hooks} options
  */
 export function checkOptions({ urls, family = 4, queue = 1_024, probe, keepalive = 15_000, pause = 5, refreshAhead = 150_000, ...rest }) {
@@ -56,7 +56,7 @@ export function checkOptions({ urls, family = 4, queue = 1_024, probe, keepalive
 }
 
 /**
- * The URIs of the servers that can be asked. TypeError where there is none.
+ * The URIs of the servers that can be asked. TypeError if there is none.
  * @param {string[]} list
  * @param {unknown} allocation
  */
@@ -76,7 +76,7 @@ function urisFor(list, allocation) {
 }
 
 /**
- * The own address of the sockets to the server, where the user says it. TypeError where it is no IP address, RangeError where its port
+ * The own address of the sockets to the server, where the user says it. TypeError if it is no IP address, RangeError if its port
  * is none.
  * @param {{ readonly localAddress?: string, readonly localPort?: number }} options
  * @returns {Local}
@@ -89,7 +89,7 @@ function localOf({ localAddress, localPort = 0 }) {
 }
 
 /**
- * The socket of the user. TypeError where it is none for the URI, or has no place beside another URI or an address of its own.
+ * The socket of the user. TypeError if it is none for the URI, or has no place beside another URI or an address of its own.
  * @param {{ readonly socket?: unknown, readonly localAddress?: string, readonly localPort?: number }} options
  * @param {import("./uri.js").TurnUri[]} uris
  */
@@ -113,7 +113,7 @@ function socketOf({ socket, localAddress, localPort }, uris) {
 }
 
 /**
- * An IP address with its family and its canonical text. TypeError where it is none.
+ * An IP address with its family and its canonical text. TypeError if it is none.
  * @param {unknown} ip
  */
 export function ipOf(ip) {
@@ -125,7 +125,7 @@ export function ipOf(ip) {
 }
 
 /**
- * A peer: an IP address, in canonical text (RFC 5952), and a port, or both in an object. TypeError where it is none, RangeError where
+ * A peer: an IP address, in canonical text (RFC 5952), and a port, or both in an object. TypeError if it is none, RangeError where
  * its port is none.
  * @param {unknown} port
  * @param {unknown} address
@@ -144,7 +144,7 @@ export function peerOf(port, address) {
 }
 
 /**
- * Data to send as bytes: several parts make one datagram. TypeError where it is none.
+ * Data to send as bytes: several parts make one datagram. TypeError if it is none.
  * @param {unknown} data
  * @returns {Uint8Array}
  */
@@ -163,7 +163,7 @@ export function dataOf(data) {
 
 /**
  * What `send` is called with, in one of the forms of `dgram`: data, and its offset and length where it is a part; a port and an IP
- * address, or a peer; and a callback or `{ signal }`. TypeError and RangeError where it is none of them.
+ * address, or a peer; and a callback or `{ signal }`. TypeError and RangeError if it is none of them.
  * @param {unknown[]} words
  */
 export function sendWords([data, ...rest]) {
