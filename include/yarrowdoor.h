@@ -53,8 +53,8 @@
 #define YARROWDOOR_VERSION_MINOR 1
 #define YARROWDOOR_VERSION_PATCH 0
 #define YARROWDOOR_VERSION                                                                                             \
-    (YARROWDOOR_CAST(uint32_t, YARROWDOOR_VERSION_MAJOR) << 16 | YARROWDOOR_CAST(uint32_t, YARROWDOOR_VERSION_MINOR) << 8 | \
-     YARROWDOOR_CAST(uint32_t, YARROWDOOR_VERSION_PATCH))
+    (YARROWDOOR_CAST(uint32_t, YARROWDOOR_VERSION_MAJOR) << 16 |                                                       \
+     YARROWDOOR_CAST(uint32_t, YARROWDOOR_VERSION_MINOR) << 8 | YARROWDOOR_CAST(uint32_t, YARROWDOOR_VERSION_PATCH))
 
 /* How the functions stand here that are inline: with YARROWDOOR_DEFINE, which the library's own source defines, they are
    its symbols. */
@@ -122,7 +122,8 @@ enum yarrowdoor_anonymous {
 enum yarrowdoor_kind {
     /* Nothing was done. Of the next five the first that holds is answered, and the client is as it was. */
     YARROWDOOR_BAD_TIME = 2,     /* the time is over 2^62 ns */
-    YARROWDOOR_BAD_CALL = 3,     /* there is no such call, it lacks a transport or an address, or a reserved byte is not 0 */
+    YARROWDOOR_BAD_CALL = 3,     /* there is no such call, it lacks a transport or an address, or a reserved byte is
+                                    not 0 */
     YARROWDOOR_BAD_PAYLOAD = 4,  /* the data has over 65,504 bytes, and the allocation relays over UDP */
     YARROWDOOR_UNREAD_BYTES = 5, /* yarrowdoor_read has to read the rest of an earlier answer first */
     YARROWDOOR_SMALL_BUFFER = 6, /* the buffer of yarrowdoor_send_to or yarrowdoor_send_head is too small */
@@ -143,8 +144,8 @@ enum yarrowdoor_kind {
     YARROWDOOR_CLOSED = 13,              /* the client has ended: it makes no more requests */
 
     /* of yarrowdoor_poll_transmit, yarrowdoor_abandon, yarrowdoor_send_to and yarrowdoor_send_head */
-    YARROWDOOR_PACKET = 14, /* send the len bytes in the buffer over transport, from `from` to `to`; first read left more; of a
-                               head, behind it the data and start bytes of 0 */
+    YARROWDOOR_PACKET = 14, /* send the len bytes in the buffer over transport, from `from` to `to`; first read left
+                               more; of a head, behind it the data and start bytes of 0 */
 
     /* of yarrowdoor_recv and yarrowdoor_poll_recv */
     YARROWDOOR_HANDLED = 15,         /* the bytes were for the client itself */
@@ -165,8 +166,10 @@ enum yarrowdoor_kind {
     /* of yarrowdoor_poll_event */
     YARROWDOOR_ALLOCATION_CREATED = 23,       /* peer is the relayed address, of which transport is relayed */
     YARROWDOOR_ALLOCATION_CREATE_FAILED = 24, /* there is no relayed address of family, for whatever reason */
-    YARROWDOOR_PERMISSION_CREATED = 25,       /* the IP address of peer, whose port is 0, has a permission, over transport */
-    YARROWDOOR_PERMISSION_CREATE_FAILED = 26, /* the IP address of peer, whose port is 0, has no permission (any more) */
+    YARROWDOOR_PERMISSION_CREATED = 25,       /* the IP address of peer, whose port is 0, has a permission, over
+                                                 transport */
+    YARROWDOOR_PERMISSION_CREATE_FAILED = 26, /* the IP address of peer, whose port is 0, has no permission (any
+                                                 more) */
     YARROWDOOR_CHANNEL_CREATED = 27,          /* peer has a channel, over transport */
     YARROWDOOR_CHANNEL_CREATE_FAILED = 28,    /* peer got no channel, or has it no longer */
     YARROWDOOR_TCP_CONNECTED = 29,            /* there is a data connection to peer */
@@ -181,8 +184,8 @@ enum yarrowdoor_kind {
     /* of yarrowdoor_read_message, beside YARROWDOOR_NOTHING and YARROWDOOR_BAD_CALL */
     YARROWDOOR_MESSAGE = 35,      /* a STUN message (RFC 8489, section 5) */
     YARROWDOOR_CHANNEL_DATA = 36, /* ChannelData (RFC 8656, section 12.4) */
-    YARROWDOOR_NO_FRAME = 37,     /* neither, or a malformed message; over UDP also what is cut short, no bytes, and bytes
-                                     behind a message */
+    YARROWDOOR_NO_FRAME = 37,     /* neither, or a malformed message; over UDP also what is cut short, no bytes, and
+                                     bytes behind a message */
 
     YARROWDOOR_KIND_WIDTH = 0x7fffffff /* no kind: the type has 32 bits */
 };
@@ -220,11 +223,12 @@ typedef struct yarrowdoor_address {
 
 /* What a new client is and does. yarrowdoor_settings_of gives the usual ones. */
 typedef struct yarrowdoor_settings {
-    uint64_t wait_initial; /* from when a request is made to its second transmission, in nanoseconds; then doubled. The
-                              first one may be held back by the pause between requests, which counts */
+    uint64_t wait_initial; /* to the second transmission of a request, in nanoseconds, from its first one, or with
+                              timed_from_send 0 from when it is made; then doubled */
     uint64_t wait_max;     /* the longest wait between two transmissions, in nanoseconds */
     uint64_t wait_last;    /* the wait after the last transmission, in nanoseconds */
-    uint32_t wait_count;   /* how often a request is transmitted over UDP in all; once if wait_initial is at most 1 ms */
+    uint32_t wait_count;   /* how often a request is transmitted over UDP in all; once if wait_initial is at most
+                              1 ms */
     uint32_t has_waits;    /* 0: the waits of RFC 8489, section 6.2.1, and the four above are not read */
     uint32_t transport;    /* between client and server */
     uint32_t allocation_transport; /* between server and peers; over TCP only if transport is TCP (RFC 6062) */
@@ -233,17 +237,20 @@ typedef struct yarrowdoor_settings {
     uint32_t algorithm;            /* that the client accepts. Of two it uses SHA-256, if the server offers that */
     uint32_t other_algorithm;      /* that it accepts too, or 0 */
     uint32_t anonymous;            /* YARROWDOOR_AUTO, YARROWDOOR_REQUIRED or YARROWDOOR_DISABLED */
-    uint16_t max_stale_nonces;     /* that are answered in a row; the next challenge ends the client. 0: nine, the default in
-                                      Rust; yarrowdoor_settings_of sets 256 */
-    uint16_t timed_from_send;      /* 1: a queued request waits for its response from when its first copy is transmitted, and is
-                                      not transmitted again before that. 0: from when it is made */
+    uint16_t max_stale_nonces;     /* that are answered in a row; the next challenge ends the client. 0: nine, the
+                                      default in Rust; yarrowdoor_settings_of sets 256 */
+    uint16_t timed_from_send;      /* 1: a queued request waits for its response from when its first copy is
+                                      transmitted (RFC 8489, section 6.2.1). 0: from when it is made;
+                                      yarrowdoor_settings_of sets 1 */
     yarrowdoor_address local;      /* the client's address: that of the socket */
     yarrowdoor_address remote;     /* the server's address */
-    uint64_t request_cadence;      /* the pause between two requests, in nanoseconds. 0: 50 ms. YARROWDOOR_NO_PAUSE: none */
-    uint64_t keepalive;     /* after this time without a packet a Binding indication keeps the path to the server alive, in
-                               nanoseconds; less than 1 s is taken as 1 s. 0: never. For a NAT 15 s are usual */
-    uint64_t refresh_ahead; /* how long before its expiry a grant is refreshed, but not before half of its lifetime is over,
-                               in nanoseconds; less than 1 s is taken as 1 s. 0: 60 s */
+    uint64_t request_cadence;      /* the pause between two requests, in nanoseconds. 0: 50 ms; YARROWDOOR_NO_PAUSE:
+                                      none; yarrowdoor_settings_of sets 5 ms */
+    uint64_t keepalive;            /* after this time without a packet a Binding indication keeps the path to the
+                                      server alive, in nanoseconds; less than 1 s is taken as 1 s. 0: never. For a
+                                      NAT 15 s are usual */
+    uint64_t refresh_ahead; /* how long before its expiry a grant is refreshed, but not before half of its lifetime is
+                               over, in nanoseconds; less than 1 s is taken as 1 s. 0: 60 s */
     uint64_t reserved_places[2]; /* 0 */
 } yarrowdoor_settings;
 
@@ -284,19 +291,20 @@ typedef struct yarrowdoor_answer {
 /* What the first frame of bytes says. Nothing of it was verified, so anyone who can send to the socket may have sent it. */
 typedef struct yarrowdoor_message {
     uint64_t len;           /* bytes of the frame, over TCP with its padding */
-    uint32_t kind;          /* YARROWDOOR_MESSAGE, or what else yarrowdoor_read_message answers. Of ChannelData only len and
-                               channel are set beside it, and of what is no frame nothing */
+    uint32_t kind;          /* YARROWDOOR_MESSAGE, or what else yarrowdoor_read_message answers. Of ChannelData only
+                               len and channel are set beside it, and of what is no frame nothing */
     uint16_t method;        /* RFC 8489, section 18.2, RFC 8656, section 17 and RFC 6062, section 6.1: Allocate is 3 */
     uint16_t message_class; /* of enum yarrowdoor_message_class */
     uint8_t id[12];         /* the transaction ID: that of the request, in a response */
     uint16_t channel;       /* the channel number of ChannelData, from 0x4000 to 0x7fff */
     uint16_t code;          /* of ERROR-CODE, from 300 to 699. 0: there is none, or it is malformed */
-    uint32_t reason_at;     /* where the text of ERROR-CODE begins in the bytes, not ended by a 0; 0 if there is none */
+    uint32_t reason_at;     /* where the text of ERROR-CODE begins in the bytes, not ended by a 0; 0 if there is
+                               none */
     uint32_t reason_len;    /* bytes of that text */
     uint32_t realm_at;      /* where the first REALM begins in the bytes; 0 if there is none */
     uint32_t realm_len;     /* bytes of the realm */
-    yarrowdoor_address mapped;    /* XOR-MAPPED-ADDRESS: the address at which the server sees the client. Family 0: there is
-                                     none, or it is malformed */
+    yarrowdoor_address mapped;    /* XOR-MAPPED-ADDRESS: the address at which the server sees the client. Family 0:
+                                     there is none, or it is malformed */
     yarrowdoor_address alternate; /* ALTERNATE-SERVER, likewise */
     uint8_t reserved[8];          /* 0 */
 } yarrowdoor_message;
@@ -528,8 +536,9 @@ YARROWDOOR_INLINE const char *yarrowdoor_kind_name(uint32_t kind);
    no error it is "no error". */
 YARROWDOOR_INLINE const char *yarrowdoor_error_name(uint32_t error);
 
-/* The usual settings: an IPv4 address relayed over UDP, SHA-1, the waits of the RFC, and 256 stale nonces, since a server
-   answers each copy of a request with a challenge of its own (docs/REAL-SERVERS.md). */
+/* The usual settings: an IPv4 address relayed over UDP, SHA-1, the waits of the RFC, each from when a request is first
+   transmitted, 5 ms between two requests, and 256 stale nonces, since a server answers each copy of a request with a
+   challenge of its own (docs/REAL-SERVERS.md). */
 YARROWDOOR_INLINE yarrowdoor_settings yarrowdoor_settings_of(uint32_t transport, const yarrowdoor_address *local,
                                                              const yarrowdoor_address *remote);
 
@@ -547,11 +556,11 @@ YARROWDOOR_INLINE yarrowdoor_settings yarrowdoor_settings_of(uint32_t transport,
    password is wrong, with none. */
 YARROWDOOR_INLINE enum yarrowdoor_kind yarrowdoor_poll(yarrowdoor *client, uint64_t now, yarrowdoor_answer *answer);
 
-/* The next packet that is due. Requests start at least 50 ms apart (our choice; request_cadence of the settings), so that
-   an allocation with its challenge and a permission take 100 ms or more; retransmissions do not wait. The waits of a request
-   run from the call that makes it: over UDP, of more than ten that are made at once at the default, those that have not left
-   after 500 ms all leave then, without a pause, and once more in their turn, even if they are answered or have failed by
-   then. Refreshes wait behind what is queued. So make few at a time. YARROWDOOR_PACKET:
+/* The next packet that is due. Requests leave in the order of the calls, at least request_cadence of the settings apart;
+   retransmissions wait for no pause. With timed_from_send a request that has not left is neither retransmitted nor times
+   out. Without it the waits of a request run from the call that makes it: over UDP, those that have not left after 500 ms
+   all leave then, without a pause, and once more in their turn, even if they are answered or have failed by then. Either way
+   refreshes wait behind what is queued, and what was queued leaves also if nothing needs it any more. YARROWDOOR_PACKET:
    send the answer->len bytes in the buffer, and the answer->left ones behind them that yarrowdoor_read gives, over UDP as
    one datagram. 1,500 bytes hold the packets of usual servers, and YARROWDOOR_MAX_PACKET each packet. YARROWDOOR_NOTHING:
    none is due. YARROWDOOR_UNREAD_BYTES: read the rest of an earlier answer first. */
@@ -631,8 +640,8 @@ YARROWDOOR_INLINE enum yarrowdoor_kind yarrowdoor_have_permission(const yarrowdo
    YARROWDOOR_REFUSED: YARROWDOOR_ERROR_NOT_GRANTED. YARROWDOOR_BAD_CALL also if is_kept is another number. A channel to
    a peer and the permission for it are two grants: release both, or only the channel. It takes no memory. */
 YARROWDOOR_INLINE enum yarrowdoor_kind yarrowdoor_set_permission_kept(yarrowdoor *client, uint32_t transport,
-                                                                      const yarrowdoor_address *peer,
-                                                                      uint32_t is_kept, yarrowdoor_answer *answer);
+                                                                      const yarrowdoor_address *peer, uint32_t is_kept,
+                                                                      yarrowdoor_answer *answer);
 
 /* Requests a channel to `peer`, and with it a permission (RFC 8656, section 12): its data then has four bytes of
    header, and not 36 or 48. YARROWDOOR_DONE: an event YARROWDOOR_CHANNEL_CREATED or
@@ -664,13 +673,9 @@ YARROWDOOR_INLINE enum yarrowdoor_kind yarrowdoor_tcp_connect(yarrowdoor *client
    nor if the connection ends before it is bound: then only YARROWDOOR_TCP_CLOSE reports it. YARROWDOOR_REFUSED:
    YARROWDOOR_ERROR_NO_ALLOCATION if no such connection is offered, or YARROWDOOR_ERROR_ALREADY_EXISTS if
    another has this local address. */
-YARROWDOOR_INLINE enum yarrowdoor_kind yarrowdoor_allocated_tcp_socket(yarrowdoor *client, uint32_t id,
-                                                                       uint32_t transport,
-                                                                       const yarrowdoor_address *from,
-                                                                       const yarrowdoor_address *to,
-                                                                       const yarrowdoor_address *peer,
-                                                                       const yarrowdoor_address *local, uint64_t now,
-                                                                       yarrowdoor_answer *answer);
+YARROWDOOR_INLINE enum yarrowdoor_kind yarrowdoor_allocated_tcp_socket(
+    yarrowdoor *client, uint32_t id, uint32_t transport, const yarrowdoor_address *from, const yarrowdoor_address *to,
+    const yarrowdoor_address *peer, const yarrowdoor_address *local, uint64_t now, yarrowdoor_answer *answer);
 
 /* Reports that the data connection from `local` to `remote` was closed, or broke: YARROWDOOR_DONE, and
    YARROWDOOR_TCP_CLOSE follows, unless the client has ended. The end of the control connection is a
@@ -681,9 +686,10 @@ YARROWDOOR_INLINE enum yarrowdoor_kind yarrowdoor_tcp_closed(yarrowdoor *client,
 
 /* Requests that the server delete the allocations (RFC 8656, section 8). YARROWDOOR_DONE: poll and transmit until
    YARROWDOOR_CLOSED, for as long as you care to wait: if the server answers with an error other than 437 it
-   does not come. The pause between requests holds the REFRESH back behind each request that was made before it, by default
-   50 ms each: a caller that closes the socket at once leaves the relay to the server until its lifetime is over, and so calls
-   yarrowdoor_abandon instead. YARROWDOOR_REFUSED: YARROWDOOR_ERROR_NO_ALLOCATION. To give up before there is one, free the
+   does not come, and with timed_from_send not before the REFRESH was taken by yarrowdoor_poll_transmit. It leaves behind
+   each request that was made before it, one in each pause: a caller that closes the socket at once leaves the relay to the
+   server until its lifetime is over, and so calls yarrowdoor_abandon instead. YARROWDOOR_REFUSED:
+   YARROWDOOR_ERROR_NO_ALLOCATION. To give up before there is one, free the
    client: what the server may still grant ends there by its lifetime. */
 YARROWDOOR_INLINE enum yarrowdoor_kind yarrowdoor_delete(yarrowdoor *client, uint64_t now, yarrowdoor_answer *answer);
 
@@ -739,7 +745,8 @@ YARROWDOOR_INLINE int yarrowdoor_is_same_address(const yarrowdoor_address *a, co
 
 /* ---- how they do it */
 
-/* Some functions below return a struct, about which a program that is compiled with -Waggregate-return is warned only in its own calls. */
+/* Some functions below return a struct, about which a program that is compiled with -Waggregate-return is warned only in
+   its own calls. */
 #if defined(__GNUC__)
 #pragma GCC diagnostic push
 #pragma GCC diagnostic ignored "-Waggregate-return"
@@ -814,7 +821,9 @@ static inline enum yarrowdoor_kind yarrowdoor_look_at(const yarrowdoor *client, 
 
 YARROWDOOR_INLINE const char *yarrowdoor_kind_name(uint32_t kind)
 {
-    /* in the order of their numbers, from 0, and not as pointers, which would be variables of the shared library */
+    /* in the order of their numbers, from 0, and not as pointers, which would be variables of the shared library; in full
+       lines, for which clang-format has no setting */
+    /* clang-format off */
     static const char names[][25] = {
         "no kind", "OUT_OF_MEMORY", "BAD_TIME", "BAD_CALL", "BAD_PAYLOAD", "UNREAD_BYTES", "SMALL_BUFFER", "REFUSED",
         "DONE", "NOTHING", "WAIT_UNTIL", "ALLOCATE_TCP_SOCKET", "TCP_CLOSE", "CLOSED", "PACKET", "HANDLED", "IGNORED",
@@ -823,15 +832,15 @@ YARROWDOOR_INLINE const char *yarrowdoor_kind_name(uint32_t kind)
         "TCP_CONNECT_FAILED", "BAD_SETTINGS", "BAD_CREDENTIALS", "BAD_SEED", "PEER_DATA_RANGE", "MESSAGE",
         "CHANNEL_DATA", "NO_FRAME"
     };
+    /* clang-format on */
     return names[kind < sizeof names / sizeof names[0] ? kind : 0];
 }
 
 YARROWDOOR_INLINE const char *yarrowdoor_error_name(uint32_t error)
 {
     /* in the order of their numbers, from 0 */
-    static const char names[][16] = {
-        "no error", "ALREADY_EXISTS", "NO_ALLOCATION", "NO_PERMISSION", "NO_SOCKET", "EXPIRED", "NOT_GRANTED"
-    };
+    static const char names[][16] = {"no error",  "ALREADY_EXISTS", "NO_ALLOCATION", "NO_PERMISSION",
+                                     "NO_SOCKET", "EXPIRED",        "NOT_GRANTED"};
     return names[error < sizeof names / sizeof names[0] ? error : 0];
 }
 
@@ -846,6 +855,8 @@ YARROWDOOR_INLINE yarrowdoor_settings yarrowdoor_settings_of(uint32_t transport,
     settings.algorithm = YARROWDOOR_SHA1;
     settings.anonymous = YARROWDOOR_AUTO;
     settings.max_stale_nonces = 256;
+    settings.timed_from_send = 1;
+    settings.request_cadence = 5000000;
     settings.reserved_places[0] = yarrowdoor_abi_0 | yarrowdoor_0_1; /* 0, so that another library does not link */
     settings.local = *local;
     settings.remote = *remote;
@@ -950,8 +961,8 @@ YARROWDOOR_INLINE enum yarrowdoor_kind yarrowdoor_have_permission(const yarrowdo
 }
 
 YARROWDOOR_INLINE enum yarrowdoor_kind yarrowdoor_set_permission_kept(yarrowdoor *client, uint32_t transport,
-                                                                      const yarrowdoor_address *peer,
-                                                                      uint32_t is_kept, yarrowdoor_answer *answer)
+                                                                      const yarrowdoor_address *peer, uint32_t is_kept,
+                                                                      yarrowdoor_answer *answer)
 {
     yarrowdoor_request request;
     yarrowdoor_begin(&request, YARROWDOOR_CALL_SET_PERMISSION_KEPT, 0);
@@ -993,13 +1004,9 @@ YARROWDOOR_INLINE enum yarrowdoor_kind yarrowdoor_tcp_connect(yarrowdoor *client
     return yarrowdoor_call_plain(client, &request, answer);
 }
 
-YARROWDOOR_INLINE enum yarrowdoor_kind yarrowdoor_allocated_tcp_socket(yarrowdoor *client, uint32_t id,
-                                                                       uint32_t transport,
-                                                                       const yarrowdoor_address *from,
-                                                                       const yarrowdoor_address *to,
-                                                                       const yarrowdoor_address *peer,
-                                                                       const yarrowdoor_address *local, uint64_t now,
-                                                                       yarrowdoor_answer *answer)
+YARROWDOOR_INLINE enum yarrowdoor_kind yarrowdoor_allocated_tcp_socket(
+    yarrowdoor *client, uint32_t id, uint32_t transport, const yarrowdoor_address *from, const yarrowdoor_address *to,
+    const yarrowdoor_address *peer, const yarrowdoor_address *local, uint64_t now, yarrowdoor_answer *answer)
 {
     yarrowdoor_request request;
     yarrowdoor_begin(&request, YARROWDOOR_CALL_ALLOCATED_TCP_SOCKET, now);

@@ -20,7 +20,20 @@ enum { PORT = 10000, OTHER_PORT = 10001 };
 enum { INDICATION = 20 + 12 + 4 + PAYLOAD };
 
 enum {
-    NO_CALL, NO_LOOK, FRAME_IN, DATA_IN, FRAME_OUT, SEND, HAVE, RELAYED, POLL, TRANSMIT, EVENT, FRAME_READ, DATA_READ, FOUND,
+    NO_CALL,
+    NO_LOOK,
+    FRAME_IN,
+    DATA_IN,
+    FRAME_OUT,
+    SEND,
+    HAVE,
+    RELAYED,
+    POLL,
+    TRANSMIT,
+    EVENT,
+    FRAME_READ,
+    DATA_READ,
+    FOUND,
     ROWS
 };
 
@@ -163,7 +176,8 @@ static uint64_t no_call(uint32_t row, yarrowdoor_answer *answer)
 {
     yarrowdoor_request request;
     yarrowdoor_begin(&request, 0, now);
-    return row == NO_LOOK ? yarrowdoor_look_at(client, &request, answer) : yarrowdoor_call_plain(client, &request, answer);
+    return row == NO_LOOK ? yarrowdoor_look_at(client, &request, answer)
+                          : yarrowdoor_call_plain(client, &request, answer);
 }
 
 static uint64_t turn(uint32_t row)

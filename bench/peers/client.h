@@ -8,7 +8,18 @@
 
 /* What a turn does: the rows of the table. README.md says how each is made. */
 enum task {
-    FRAME_OUT, FRAME_HEAD, FRAME_IN, AROUND_OUT, AROUND_HEAD, AROUND_IN, SEND_OUT, SEND_HEAD, DATA_IN, POLL, TRANSMIT, ROWS
+    FRAME_OUT,
+    FRAME_HEAD,
+    FRAME_IN,
+    AROUND_OUT,
+    AROUND_HEAD,
+    AROUND_IN,
+    SEND_OUT,
+    SEND_HEAD,
+    DATA_IN,
+    POLL,
+    TRANSMIT,
+    ROWS
 };
 
 /* What peers send, and what is sent to them. Those who copy it for a client take its length from a variable, as a program

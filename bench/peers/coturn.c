@@ -43,19 +43,22 @@ static void exchange(void)
 void client_open(void)
 {
     static const uint8_t user[] = "user", pass[] = "pass";
-    uint8_t reason[256], realm[STUN_MAX_REALM_SIZE + 1], nonce[STUN_MAX_NONCE_SIZE + 1], name[STUN_MAX_SERVER_NAME_SIZE + 1];
+    uint8_t reason[256], realm[STUN_MAX_REALM_SIZE + 1], nonce[STUN_MAX_NONCE_SIZE + 1],
+        name[STUN_MAX_SERVER_NAME_SIZE + 1];
     int code, is_oauth = 0;
     ioa_addr relayed;
     begin_allocate();
     exchange();
-    if (!stun_is_challenge_response_str(reply, reply_len, &code, reason, sizeof reason, realm, nonce, name, &is_oauth)) {
+    if (!stun_is_challenge_response_str(reply, reply_len, &code, reason, sizeof reason, realm, nonce, name,
+                                        &is_oauth)) {
         wrong("a challenge");
     }
     begin_allocate();
     stun_attr_add_integrity_by_user_str(packet, &packet_len, user, realm, pass, nonce, SHATYPE_SHA1);
     exchange();
     if (!stun_is_success_response_str(reply, reply_len) ||
-        stun_check_message_integrity_str(TURN_CREDENTIALS_LONG_TERM, reply, reply_len, user, realm, pass, SHATYPE_SHA1) < 1 ||
+        stun_check_message_integrity_str(TURN_CREDENTIALS_LONG_TERM, reply, reply_len, user, realm, pass,
+                                         SHATYPE_SHA1) < 1 ||
         stun_attr_get_first_addr_str(reply, reply_len, STUN_ATTRIBUTE_XOR_RELAYED_ADDRESS, &relayed, NULL) < 0) {
         wrong("an allocation");
     }

@@ -120,8 +120,8 @@ static void granted(void *arg)
 void client_open(void)
 {
     bound = 0;
-    if (turnc_alloc(&client, NULL, IPPROTO_UDP, sock, CLIENT_LAYER, &server, "user", "pass", TURN_DEFAULT_LIFETIME, allocated,
-                    NULL)) {
+    if (turnc_alloc(&client, NULL, IPPROTO_UDP, sock, CLIENT_LAYER, &server, "user", "pass", TURN_DEFAULT_LIFETIME,
+                    allocated, NULL)) {
         wrong("a new client");
     }
     exchange();

@@ -33,10 +33,17 @@ static uint8_t frame[4 + PAYLOAD], indication[36 + PAYLOAD];
 
 /* What a turn of each row answers, so that no refused call is timed. */
 static const uint64_t wanted[ROWS] = {
-    [FRAME_OUT] = 4 + PAYLOAD,  [FRAME_HEAD] = 4 + PAYLOAD,  [FRAME_IN] = PAYLOAD,
-    [AROUND_OUT] = 4 + PAYLOAD, [AROUND_HEAD] = 4 + PAYLOAD, [AROUND_IN] = PAYLOAD,
-    [SEND_OUT] = 36 + PAYLOAD,  [SEND_HEAD] = 36 + PAYLOAD,  [DATA_IN] = PAYLOAD,
-    [POLL] = 1,                 [TRANSMIT] = 1,
+    [FRAME_OUT] = 4 + PAYLOAD,
+    [FRAME_HEAD] = 4 + PAYLOAD,
+    [FRAME_IN] = PAYLOAD,
+    [AROUND_OUT] = 4 + PAYLOAD,
+    [AROUND_HEAD] = 4 + PAYLOAD,
+    [AROUND_IN] = PAYLOAD,
+    [SEND_OUT] = 36 + PAYLOAD,
+    [SEND_HEAD] = 36 + PAYLOAD,
+    [DATA_IN] = PAYLOAD,
+    [POLL] = 1,
+    [TRANSMIT] = 1,
 };
 
 static uint32_t peer_ip(int index)
@@ -168,7 +175,8 @@ static void print_heap(int count)
         client_bind(peer_ip(i));
     }
     size_t full = heap_held() - held, asked_full = heap_asked() - asked;
-    printf("allocations %zu\nheld_idle %zu\nasked_idle %zu\nheld %zu\nasked %zu\n", handshake, idle, asked_idle, full, asked_full);
+    printf("allocations %zu\nheld_idle %zu\nasked_idle %zu\nheld %zu\nasked %zu\n", handshake, idle, asked_idle, full,
+           asked_full);
     client_close();
 }
 

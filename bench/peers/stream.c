@@ -97,8 +97,8 @@ static void send_numbered(uint32_t number)
     struct iovec parts[] = {{head, sizeof head}, {payload, sizeof payload}};
     memcpy(payload, &number, sizeof number);
     if (!is_by_hand) {
-        if (yarrowdoor_send_head(client, YARROWDOOR_UDP, &peer, sizeof payload, time_read, front, sizeof front, &answer) !=
-                YARROWDOOR_PACKET ||
+        if (yarrowdoor_send_head(client, YARROWDOOR_UDP, &peer, sizeof payload, time_read, front, sizeof front,
+                                 &answer) != YARROWDOOR_PACKET ||
             answer.start != 0) {
             stop("no head, or one of a payload that is padded");
         }
@@ -111,7 +111,8 @@ static void send_numbered(uint32_t number)
 static const uint8_t *data_in(size_t len)
 {
     if (is_by_hand) {
-        return len == sizeof head + sizeof payload && memcmp(incoming, head, sizeof head) == 0 ? incoming + sizeof head : NULL;
+        return len == sizeof head + sizeof payload && memcmp(incoming, head, sizeof head) == 0 ? incoming + sizeof head
+                                                                                               : NULL;
     }
     yarrowdoor_recv(client, YARROWDOOR_UDP, &server, &local, incoming, len, time_read, NULL, 0, &answer);
     return answer.kind == YARROWDOOR_PEER_DATA_RANGE && answer.len == sizeof payload ? incoming + answer.start : NULL;

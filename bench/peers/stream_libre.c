@@ -97,7 +97,8 @@ int main(int argc, char **argv)
     sa_set_in(&peer, 0x7f000001, (uint16_t)route.peer_port);
     tmr_init(&lost);
     if (libre_init() || udp_listen(&sock, &any, receive, NULL) || !(out = mbuf_alloc(ROOM + STREAM_PAYLOAD)) ||
-        turnc_alloc(&client, NULL, IPPROTO_UDP, sock, LAYER, &server, "user", "pass", TURN_DEFAULT_LIFETIME, allocated, NULL)) {
+        turnc_alloc(&client, NULL, IPPROTO_UDP, sock, LAYER, &server, "user", "pass", TURN_DEFAULT_LIFETIME, allocated,
+                    NULL)) {
         stop("no client");
     }
     re_main(NULL);

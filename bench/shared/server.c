@@ -14,8 +14,8 @@ static const uint8_t KEY[16] = {
 
 /* Error 401 with the realm `realm` and the nonce `nonce`. */
 static const uint8_t UNAUTHENTICATED[] = {
-    0x00, 0x09, 0x00, 0x04, 0x00, 0x00, 0x04, 0x01, 0x00, 0x14, 0x00, 0x05, 'r',  'e',  'a',  'l',
-    'm',  0x00, 0x00, 0x00, 0x00, 0x15, 0x00, 0x05, 'n',  'o',  'n',  'c',  'e',  0x00, 0x00, 0x00,
+    0x00, 0x09, 0x00, 0x04, 0x00, 0x00, 0x04, 0x01, 0x00, 0x14, 0x00, 0x05, 'r', 'e',  'a',  'l',
+    'm',  0x00, 0x00, 0x00, 0x00, 0x15, 0x00, 0x05, 'n',  'o',  'n',  'c',  'e', 0x00, 0x00, 0x00,
 };
 
 /* A LIFETIME of an hour, XOR-RELAYED-ADDRESS of 10.0.0.4:40000, and XOR-MAPPED-ADDRESS of 192.168.0.1:1000. */
@@ -56,8 +56,7 @@ static int is_signed(const uint8_t *request, size_t len)
 }
 
 /* Answers with these attributes, and signs them where that is wanted. */
-static size_t answer(const uint8_t *request, uint16_t class, const uint8_t *body, size_t len, int sign,
-                     uint8_t *room)
+static size_t answer(const uint8_t *request, uint16_t class, const uint8_t *body, size_t len, int sign, uint8_t *room)
 {
     uint16_t method = (uint16_t)(request[0] << 8 | request[1]);
     write_header(room, class | method, (uint16_t)(sign ? len + 24 : len), 0);

@@ -115,8 +115,7 @@ void bench_stop(uint32_t row, uint64_t count)
 static void end_batch(uint32_t row, double spent, uint64_t sum)
 {
     if (!is_right(row, turns, sum)) {
-        fprintf(stderr, "row %u: %llu turns answered %llu\n", row, (unsigned long long)turns,
-                (unsigned long long)sum);
+        fprintf(stderr, "row %u: %llu turns answered %llu\n", row, (unsigned long long)turns, (unsigned long long)sum);
         wrong("a call");
     }
     if (batch == 0 && spent < LEAST_BATCH) {

@@ -1,8 +1,8 @@
 /* SPDX-License-Identifier: MIT OR Apache-2.0 */
 /* For Eva: what yarrowdoor_begin and yarrowdoor_clear set, whatever the memory held before, and that they set nothing beside it.
    The numbers that yarrowdoor_begin sets are those of its arguments by WP (contracts.h). */
-#include "shape.h"
 #include "__fc_builtin.h"
+#include "shape.h"
 
 int main(void)
 {

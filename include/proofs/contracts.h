@@ -10,6 +10,9 @@
 
 #include "shape.h"
 
+/* The macros below are ACSL, which clang-format takes for C. */
+/* clang-format off */
+
 /*@ axiomatic Reached {
       predicate reaches(integer kind, integer time, integer id, integer transport, integer result) reads \nothing;
       predicate reaches_bytes(uint8_t *bytes, integer len, integer result) reads \nothing;

@@ -1,8 +1,8 @@
 /* SPDX-License-Identifier: MIT OR Apache-2.0 */
 /* For Eva: no inline function of yarrowdoor.h, and none of yarrowdoor.c, has undefined behaviour, for all numbers, lengths and
    addresses, whatever the memory holds: no access out of bounds, no overflow, no read of what is not initialised. */
-#include "shape.h"
 #include "__fc_builtin.h"
+#include "shape.h"
 
 /* What the two exports ask for and may write: the bodies are those of the proved library. */
 /*@ requires \valid_read(request) && \valid(answer) && \valid(client);
@@ -49,9 +49,12 @@ static void any_call(yarrowdoor *client)
     yarrowdoor_answer answer;
     uint64_t now = Frama_C_unsigned_long_interval(0, ~0UL);
     uint32_t n = any_number(), m = any_number();
-    size_t len = Frama_C_unsigned_long_interval(0, sizeof bytes), room = Frama_C_unsigned_long_interval(0, sizeof buffer);
+    size_t len = Frama_C_unsigned_long_interval(0, sizeof bytes),
+           room = Frama_C_unsigned_long_interval(0, sizeof buffer);
     Frama_C_make_unknown((char *)bytes, sizeof bytes);
     Frama_C_make_unknown((char *)buffer, sizeof buffer);
+    /* each call in a line of its own */
+    /* clang-format off */
     switch (any) {
     case 1: yarrowdoor_poll(client, now, &answer); break;
     case 2: yarrowdoor_poll_transmit(client, now, buffer, room, &answer); break;
@@ -78,6 +81,7 @@ static void any_call(yarrowdoor *client)
     case 23: yarrowdoor_next_permission(client, n, &a, m, &answer); break;
     default: break;
     }
+    /* clang-format on */
 }
 
 /* A request as a value, as who calls an export makes it. */

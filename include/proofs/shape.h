@@ -7,7 +7,9 @@
 #include "yarrowdoor.h"
 
 /* The proofs see no library: a client has some state, and the symbols of the layout are those of yarrowdoor.c. */
-struct yarrowdoor { char state; };
+struct yarrowdoor {
+    char state;
+};
 const uint32_t yarrowdoor_abi_0 = 0;
 const uint32_t yarrowdoor_0_1 = 0;
 

@@ -37,7 +37,9 @@ static yarrowdoor *new_client(void)
     static const uint8_t seed[32] = {7};
     yarrowdoor_settings settings = yarrowdoor_settings_of(YARROWDOOR_UDP, &local, &server);
     yarrowdoor *client = NULL;
-    check(yarrowdoor_new(&settings, (const uint8_t *)"user", 4, (const uint8_t *)"pass", 4, seed, sizeof seed, &client) == 0, "new");
+    check(yarrowdoor_new(&settings, (const uint8_t *)"user", 4, (const uint8_t *)"pass", 4, seed, sizeof seed,
+                         &client) == 0,
+          "new");
     return client;
 }
 
@@ -76,7 +78,8 @@ static void queue_requests(yarrowdoor *client)
     yarrowdoor_answer answer;
     for (uint32_t i = 0; i < QUEUED; i++) {
         yarrowdoor_address peer = yarrowdoor_ipv4(10, 2, (uint8_t)(i >> 8), (uint8_t)i, 1);
-        check(yarrowdoor_create_permission(client, YARROWDOOR_UDP, &peer, now, &answer) == YARROWDOOR_DONE, "a queued request");
+        check(yarrowdoor_create_permission(client, YARROWDOOR_UDP, &peer, now, &answer) == YARROWDOOR_DONE,
+              "a queued request");
     }
 }
 
@@ -95,11 +98,13 @@ static void has_ended(yarrowdoor *client)
     while (yarrowdoor_poll_event(client, &answer) != YARROWDOOR_NOTHING) {
     }
     check(yarrowdoor_poll(client, now, &answer) == YARROWDOOR_CLOSED, "the client has not ended");
-    check(yarrowdoor_poll_transmit(client, now + 100 * PAUSE, packet, sizeof packet, &answer) == YARROWDOOR_NOTHING, "a packet is left");
+    check(yarrowdoor_poll_transmit(client, now + 100 * PAUSE, packet, sizeof packet, &answer) == YARROWDOOR_NOTHING,
+          "a packet is left");
     check(yarrowdoor_relayed_address(client, 0, &answer) == YARROWDOOR_NOTHING, "an allocation is left");
     check(yarrowdoor_have_permission(client, YARROWDOOR_UDP, &peer, &answer) == YARROWDOOR_NO, "a permission is left");
     check(yarrowdoor_create_permission(client, YARROWDOOR_UDP, &peer, now, &answer) == YARROWDOOR_REFUSED &&
-              answer.error == YARROWDOOR_ERROR_NO_ALLOCATION, "a client that has ended makes a request");
+              answer.error == YARROWDOOR_ERROR_NO_ALLOCATION,
+          "a client that has ended makes a request");
     check(yarrowdoor_abandon(client, now, packet, sizeof packet, &answer) == YARROWDOOR_NOTHING, "a second REFRESH");
     yarrowdoor_free(client);
 }
@@ -114,13 +119,15 @@ static size_t give_up(size_t room, uint8_t *whole)
     memset(packet, 0xdd, sizeof packet);
     check(yarrowdoor_abandon(client, now, packet, room, &answer) == YARROWDOOR_PACKET, "no REFRESH at once");
     check(answer.transport == YARROWDOOR_UDP && yarrowdoor_is_same_address(&answer.from, &local) &&
-              yarrowdoor_is_same_address(&answer.to, &server), "not from the client to its server");
+              yarrowdoor_is_same_address(&answer.to, &server),
+          "not from the client to its server");
     check(answer.len <= room && packet[room] == 0xdd, "a byte behind the buffer");
     memcpy(whole, packet, answer.len);
     len = answer.len;
     while (answer.left) {
         yarrowdoor_answer before;
-        check(yarrowdoor_abandon(client, now, packet, sizeof packet, &before) == YARROWDOOR_UNREAD_BYTES, "before the rest");
+        check(yarrowdoor_abandon(client, now, packet, sizeof packet, &before) == YARROWDOOR_UNREAD_BYTES,
+              "before the rest");
         check(yarrowdoor_read(client, whole + len, 16, &answer) == YARROWDOOR_BYTES && answer.len, "the rest");
         len += answer.len;
     }
@@ -148,16 +155,21 @@ static void refusals_change_nothing(void)
     yarrowdoor_request request = yarrowdoor_request_of(YARROWDOOR_CALL_ABANDON, now);
     check(yarrowdoor_relayed_address(client, 0, &answer) == YARROWDOOR_ADDRESS, "an allocation");
     relayed = answer.peer;
-    check(yarrowdoor_abandon(client, YARROWDOOR_MAX_TIME + 1, packet, sizeof packet, &answer) == YARROWDOOR_BAD_TIME, "a late time");
+    check(yarrowdoor_abandon(client, YARROWDOOR_MAX_TIME + 1, packet, sizeof packet, &answer) == YARROWDOOR_BAD_TIME,
+          "a late time");
     request.reserved = 1;
-    check(yarrowdoor_call(client, &request, NULL, 0, packet, sizeof packet, &answer) == YARROWDOOR_BAD_CALL, "a reserved place");
+    check(yarrowdoor_call(client, &request, NULL, 0, packet, sizeof packet, &answer) == YARROWDOOR_BAD_CALL,
+          "a reserved place");
     check(yarrowdoor_look(client, &request, &answer) == YARROWDOOR_BAD_CALL, "a look that ends a client");
     check(yarrowdoor_create_permission(client, YARROWDOOR_UDP, &peer, now, &answer) == YARROWDOOR_DONE, "a permission");
     now += PAUSE;
-    check(yarrowdoor_poll_transmit(client, now, packet, 10, &answer) == YARROWDOOR_PACKET && answer.left, "a packet and its rest");
-    check(yarrowdoor_abandon(client, now, packet, sizeof packet, &answer) == YARROWDOOR_UNREAD_BYTES, "before the rest");
+    check(yarrowdoor_poll_transmit(client, now, packet, 10, &answer) == YARROWDOOR_PACKET && answer.left,
+          "a packet and its rest");
+    check(yarrowdoor_abandon(client, now, packet, sizeof packet, &answer) == YARROWDOOR_UNREAD_BYTES,
+          "before the rest");
     check(yarrowdoor_read(client, packet, sizeof packet, &answer) == YARROWDOOR_BYTES && answer.left == 0, "the rest");
-    check(yarrowdoor_relayed_address(client, 0, &answer) == YARROWDOOR_ADDRESS && yarrowdoor_is_same_address(&answer.peer, &relayed),
+    check(yarrowdoor_relayed_address(client, 0, &answer) == YARROWDOOR_ADDRESS &&
+              yarrowdoor_is_same_address(&answer.peer, &relayed),
           "the allocation after refusals");
     check(yarrowdoor_abandon(client, now, packet, sizeof packet, &answer) == YARROWDOOR_PACKET, "a REFRESH");
     has_ended(client);
@@ -173,11 +185,13 @@ static void without_allocation(void)
     has_ended(client);
     client = new_client();
     serve(client);
-    check(yarrowdoor_abandon(client, now, packet, 0, &answer) == YARROWDOOR_NOTHING, "a packet of a client that asks for an allocation");
+    check(yarrowdoor_abandon(client, now, packet, 0, &answer) == YARROWDOOR_NOTHING,
+          "a packet of a client that asks for an allocation");
     has_ended(client);
     client = with_allocation();
     check(yarrowdoor_protocol_error(client, &answer) == YARROWDOOR_DONE, "a protocol error");
-    check(yarrowdoor_abandon(client, now, packet, 0, &answer) == YARROWDOOR_NOTHING, "a packet of a client that has ended");
+    check(yarrowdoor_abandon(client, now, packet, 0, &answer) == YARROWDOOR_NOTHING,
+          "a packet of a client that has ended");
     has_ended(client);
 }
 
@@ -194,7 +208,8 @@ static void without_memory(void)
         shim_refuse(0);
         if (kind == YARROWDOOR_OUT_OF_MEMORY) {
             check(yarrowdoor_relayed_address(client, 0, &answer) == YARROWDOOR_ADDRESS, "the allocation is gone");
-            check(yarrowdoor_have_permission(client, YARROWDOOR_UDP, &peer, &answer) == YARROWDOOR_YES, "the permission is gone");
+            check(yarrowdoor_have_permission(client, YARROWDOOR_UDP, &peer, &answer) == YARROWDOOR_YES,
+                  "the permission is gone");
             check(yarrowdoor_poll(client, now, &answer) == YARROWDOOR_WAIT_UNTIL, "the client has ended");
             check(yarrowdoor_abandon(client, now, packet, sizeof packet, &answer) == YARROWDOOR_PACKET, "the next try");
         } else {
@@ -213,7 +228,8 @@ static uint64_t time_of_delete(void)
     uint64_t begin = now;
     queue_requests(client);
     check(yarrowdoor_delete(client, now, &answer) == YARROWDOOR_DONE, "delete");
-    while (yarrowdoor_poll_transmit(client, now, packet, sizeof packet, &answer) != YARROWDOOR_PACKET || !deletes(packet, answer.len)) {
+    while (yarrowdoor_poll_transmit(client, now, packet, sizeof packet, &answer) != YARROWDOOR_PACKET ||
+           !deletes(packet, answer.len)) {
         check(now < begin + 2 * QUEUED * PAUSE, "no REFRESH of a delete");
         now += PAUSE / 50;
     }

@@ -33,7 +33,8 @@ static void exchange(void)
     check(yarrowdoor_poll_transmit(client, now, packet, sizeof packet, &answer) == YARROWDOOR_PACKET, "no request");
     len = write_answer(packet, answer.len, text);
     check(yarrowdoor_recv(client, YARROWDOOR_TCP, &server, &local, text, len, now, packet, sizeof packet, &answer) ==
-              YARROWDOOR_HANDLED, "an answer that is not handled");
+              YARROWDOOR_HANDLED,
+          "an answer that is not handled");
     now += PAUSE;
     while (yarrowdoor_poll_event(client, &answer) != YARROWDOOR_NOTHING) {
     }
@@ -45,7 +46,9 @@ static void open_connection(void)
     static const uint8_t seed[32];
     settings = yarrowdoor_settings_of(YARROWDOOR_TCP, &local, &server);
     settings.allocation_transport = YARROWDOOR_TCP;
-    check(yarrowdoor_new(&settings, (const uint8_t *)"user", 4, (const uint8_t *)"pass", 4, seed, sizeof seed, &client) == 0, "new");
+    check(yarrowdoor_new(&settings, (const uint8_t *)"user", 4, (const uint8_t *)"pass", 4, seed, sizeof seed,
+                         &client) == 0,
+          "new");
     exchange();
     exchange();
     check(yarrowdoor_create_permission(client, YARROWDOOR_TCP, &peer, now, &answer) == YARROWDOOR_DONE, "a permission");
@@ -53,8 +56,9 @@ static void open_connection(void)
     check(yarrowdoor_tcp_connect(client, &peer, now, &answer) == YARROWDOOR_DONE, "tcp_connect");
     exchange();
     check(yarrowdoor_poll(client, now, &answer) == YARROWDOOR_ALLOCATE_TCP_SOCKET, "an offer");
-    check(yarrowdoor_allocated_tcp_socket(client, answer.id, YARROWDOOR_TCP, &local, &server, &peer, &data_local, now, &answer) ==
-              YARROWDOOR_DONE, "a socket");
+    check(yarrowdoor_allocated_tcp_socket(client, answer.id, YARROWDOOR_TCP, &local, &server, &peer, &data_local, now,
+                                          &answer) == YARROWDOOR_DONE,
+          "a socket");
 }
 
 int main(void)
@@ -65,15 +69,19 @@ int main(void)
     data_local = yarrowdoor_ipv4(192, 168, 0, 1, 1001);
     open_connection();
     check(yarrowdoor_tcp_closed(client, &data_local, &server, now, &answer) == YARROWDOOR_DONE, "tcp_closed");
-    check(yarrowdoor_poll(client, now, &answer) == YARROWDOOR_TCP_CLOSE && yarrowdoor_is_same_address(&answer.from, &data_local),
+    check(yarrowdoor_poll(client, now, &answer) == YARROWDOOR_TCP_CLOSE &&
+              yarrowdoor_is_same_address(&answer.from, &data_local),
           "the connection is not to be closed");
-    check(yarrowdoor_poll_transmit(client, now, packet, sizeof packet, &answer) == YARROWDOOR_PACKET && packet[1] == CONNECTION_BIND,
+    check(yarrowdoor_poll_transmit(client, now, packet, sizeof packet, &answer) == YARROWDOOR_PACKET &&
+              packet[1] == CONNECTION_BIND,
           "no CONNECTION_BIND of the closed connection: the header says that one may come");
-    check(yarrowdoor_is_same_address(&answer.from, &data_local), "a packet of the closed connection from another address");
+    check(yarrowdoor_is_same_address(&answer.from, &data_local),
+          "a packet of the closed connection from another address");
     for (int i = 0; i < TRIES; i++) {
         now += PAUSE;
         check(yarrowdoor_poll_transmit(client, now, packet, sizeof packet, &answer) == YARROWDOOR_NOTHING ||
-                  !yarrowdoor_is_same_address(&answer.from, &data_local), "a second packet of the closed connection");
+                  !yarrowdoor_is_same_address(&answer.from, &data_local),
+              "a second packet of the closed connection");
     }
     yarrowdoor_free(client);
     printf("closed: %d times without a further packet\n", TRIES);

@@ -2,6 +2,7 @@
 /* Data of peers, in and out, makes nothing due: the header says after which calls a caller need not poll again. Clients with a
    channel and a permission send and receive at drawn times, with and without a keepalive; after each such call nothing is to be
    sent, there is no event, and the wake-up time is no earlier. A call that does make something due is seen by the same check.
+   A caller who is late with the first request is given a wake-up time that is before now.
    The last line says how long after yarrowdoor_delete its request is sent, at the default pause, right after another one. */
 #include "bench.h"
 #include "yarrowdoor.h"
@@ -68,17 +69,25 @@ static void settle(void)
     check(0, "the client is never at rest");
 }
 
-static void start(uint64_t keepalive)
+static void make(uint64_t keepalive)
 {
     static const uint8_t seed[32] = {7};
     yarrowdoor_settings settings = yarrowdoor_settings_of(YARROWDOOR_UDP, &local, &server);
-    yarrowdoor_answer answer;
     settings.keepalive = keepalive;
     now = 0;
-    check(yarrowdoor_new(&settings, (const uint8_t *)"user", 4, (const uint8_t *)"pass", 4, seed, sizeof seed, &client) == 0, "new");
+    check(yarrowdoor_new(&settings, (const uint8_t *)"user", 4, (const uint8_t *)"pass", 4, seed, sizeof seed,
+                         &client) == 0,
+          "new");
+}
+
+static void start(uint64_t keepalive)
+{
+    yarrowdoor_answer answer;
+    make(keepalive);
     settle();
     check(yarrowdoor_bind_channel(client, YARROWDOOR_UDP, &with_channel, now, &answer) == YARROWDOOR_DONE, "a channel");
-    check(yarrowdoor_create_permission(client, YARROWDOOR_UDP, &without, now, &answer) == YARROWDOOR_DONE, "a permission");
+    check(yarrowdoor_create_permission(client, YARROWDOOR_UDP, &without, now, &answer) == YARROWDOOR_DONE,
+          "a permission");
     settle();
 }
 
@@ -88,7 +97,8 @@ static void receive(void)
     yarrowdoor_answer answer;
     uint8_t frame[4 + PAYLOAD] = {0x40, 0x00, PAYLOAD >> 8, PAYLOAD & 0xff};
     check(yarrowdoor_recv(client, YARROWDOOR_UDP, &server, &local, frame, sizeof frame, now, NULL, 0, &answer) ==
-              YARROWDOOR_PEER_DATA_RANGE, "data of a peer");
+              YARROWDOOR_PEER_DATA_RANGE,
+          "data of a peer");
 }
 
 static void call(void)
@@ -100,11 +110,13 @@ static void call(void)
     if (kind == 0) {
         receive();
     } else if (kind == 1) {
-        check(yarrowdoor_send_to(client, YARROWDOOR_UDP, peer, data, sizeof data, now, packet, sizeof packet, &answer) ==
-                  YARROWDOOR_PACKET, "send_to");
+        check(yarrowdoor_send_to(client, YARROWDOOR_UDP, peer, data, sizeof data, now, packet, sizeof packet,
+                                 &answer) == YARROWDOOR_PACKET,
+              "send_to");
     } else {
         check(yarrowdoor_send_head(client, YARROWDOOR_UDP, peer, sizeof data, now, packet, sizeof packet, &answer) ==
-                  YARROWDOOR_PACKET, "send_head");
+                  YARROWDOOR_PACKET,
+              "send_head");
     }
 }
 
@@ -131,6 +143,24 @@ static void draw_calls(void)
     }
 }
 
+/* The first request, whose second transmission is due after 500 ms (RFC 8489, section 6.2.1), while the caller sleeps: the wake-up
+   time is that time, long before now. */
+static void fall_behind(void)
+{
+    yarrowdoor_answer answer;
+    make(0);
+    check(yarrowdoor_poll(client, now, &answer) == YARROWDOOR_WAIT_UNTIL && answer.time == now, "a new client waits");
+    check(yarrowdoor_poll_transmit(client, now, packet, sizeof packet, &answer) == YARROWDOOR_PACKET,
+          "no first request");
+    for (now = 100 * MILLISECOND; now < REST; now += 100 * MILLISECOND) {
+        check(yarrowdoor_poll(client, now, &answer) == YARROWDOOR_WAIT_UNTIL && answer.time == 500 * MILLISECOND,
+              "another time");
+    }
+    check(yarrowdoor_poll_transmit(client, now, packet, sizeof packet, &answer) == YARROWDOOR_PACKET,
+          "no second transmission");
+    yarrowdoor_free(client);
+}
+
 int main(void)
 {
     yarrowdoor_answer answer;
@@ -140,16 +170,19 @@ int main(void)
     server = yarrowdoor_ipv4(10, 0, 0, 2, 2000);
     with_channel = yarrowdoor_ipv4(10, 1, 0, 1, 1);
     without = yarrowdoor_ipv4(10, 1, 0, 2, 2);
+    fall_behind();
     for (int kept = 0; kept < 2; kept++) {
         start(kept ? 15000 * MILLISECOND : 0);
         draw_calls();
         settle();
         told = wake_up();
-        check(yarrowdoor_create_permission(client, YARROWDOOR_UDP, &other, now, &answer) == YARROWDOOR_DONE, "a permission");
+        check(yarrowdoor_create_permission(client, YARROWDOOR_UDP, &other, now, &answer) == YARROWDOOR_DONE,
+              "a permission");
         check(told != NEVER && !is_as_told(told), "a request makes nothing due");
         start_of_delete = now;
         check(yarrowdoor_delete(client, now, &answer) == YARROWDOOR_DONE, "delete");
-        while (yarrowdoor_poll_transmit(client, now, packet, sizeof packet, &answer) != YARROWDOOR_PACKET || packet[1] != 4) {
+        while (yarrowdoor_poll_transmit(client, now, packet, sizeof packet, &answer) != YARROWDOOR_PACKET ||
+               packet[1] != 4) {
             now += MILLISECOND;
         }
         check(now - start_of_delete == 50 * MILLISECOND, "a REFRESH behind one request, at the default pause");

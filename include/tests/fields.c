@@ -371,7 +371,8 @@ static uint32_t call_both(uint32_t kind, uint64_t now)
     yarrowdoor_request r = yarrowdoor_request_of(kind, now);
     r.peer = yarrowdoor_ipv4(10, 0, 0, 3, 9000);
     r.from = yarrowdoor_ipv4(10, 0, 0, 4, 40000);
-    return both(&r, (const uint8_t *)"hello", kind == YARROWDOOR_CALL_SEND_TO || kind == YARROWDOOR_CALL_SEND_HEAD ? 5 : 0, BUFFER);
+    return both(&r, (const uint8_t *)"hello",
+                kind == YARROWDOOR_CALL_SEND_TO || kind == YARROWDOOR_CALL_SEND_HEAD ? 5 : 0, BUFFER);
 }
 
 /* The head of so many bytes of data, of which there are none, and the packet of one client with the data: both clients have
@@ -382,10 +383,13 @@ static void head_alike(size_t len, uint64_t now)
     yarrowdoor_address peer = yarrowdoor_ipv4(10, 0, 0, 3, 9000);
     static const uint8_t zeros[3];
     memset(buffer, 0xdd, YARROWDOOR_MAX_OVERHEAD);
-    check("a head", yarrowdoor_send_head(teased, YARROWDOOR_UDP, &peer, len, now, buffer, YARROWDOOR_MAX_OVERHEAD, &head),
+    check("a head",
+          yarrowdoor_send_head(teased, YARROWDOOR_UDP, &peer, len, now, buffer, YARROWDOOR_MAX_OVERHEAD, &head),
           YARROWDOOR_PACKET);
-    check("a packet", yarrowdoor_send_to(plain, YARROWDOOR_UDP, &peer, payload, len, now, other_buffer, sizeof other_buffer,
-                                         &packet), YARROWDOOR_PACKET);
+    check(
+        "a packet",
+        yarrowdoor_send_to(plain, YARROWDOOR_UDP, &peer, payload, len, now, other_buffer, sizeof other_buffer, &packet),
+        YARROWDOOR_PACKET);
     check("the length of a head", (uint32_t)(head.len + len + head.start), (uint32_t)packet.len);
     check("a head", (uint32_t)(memcmp(buffer, other_buffer, head.len) != 0), 0);
     check("the data behind it", (uint32_t)(memcmp(other_buffer + head.len, payload, len) != 0), 0);
@@ -481,8 +485,9 @@ static uint32_t challenged_twice(const yarrowdoor_settings *good, uint16_t limit
         check("ALLOCATE", yarrowdoor_poll_transmit(client, now, buffer, BUFFER, &answer), YARROWDOOR_PACKET);
         memcpy(bytes + 8, buffer + 8, 12); /* the transaction ID of the request */
         bytes[27] = now == 0 ? 1 : 38;     /* a 401, and then a 438 */
-        check("challenge", yarrowdoor_recv(client, YARROWDOOR_UDP, &s.remote, &s.local, bytes, len, now, buffer, BUFFER,
-                                           &answer), YARROWDOOR_HANDLED);
+        check("challenge",
+              yarrowdoor_recv(client, YARROWDOOR_UDP, &s.remote, &s.local, bytes, len, now, buffer, BUFFER, &answer),
+              YARROWDOOR_HANDLED);
     }
     yarrowdoor_poll_event(client, &answer);
     yarrowdoor_free(client);
@@ -523,8 +528,9 @@ static uint64_t second_time(const yarrowdoor_settings *good, uint64_t cadence)
     s.request_cadence = cadence;
     check("a new client", new_client(&s, 4, 4, 32, &client), 0);
     check("ALLOCATE", yarrowdoor_poll_transmit(client, 0, buffer, BUFFER, &answer), YARROWDOOR_PACKET);
-    check("challenge", yarrowdoor_recv(client, YARROWDOOR_UDP, &s.remote, &s.local, bytes, len, 1000, buffer, BUFFER,
-                                       &answer), YARROWDOOR_HANDLED);
+    check("challenge",
+          yarrowdoor_recv(client, YARROWDOOR_UDP, &s.remote, &s.local, bytes, len, 1000, buffer, BUFFER, &answer),
+          YARROWDOOR_HANDLED);
     check("poll", yarrowdoor_poll(client, 1000, &answer), YARROWDOOR_WAIT_UNTIL);
     uint64_t time = answer.time;
     yarrowdoor_free(client);
@@ -544,8 +550,10 @@ static uint64_t idle_until(const yarrowdoor_settings *good, uint64_t keepalive, 
     for (int packet = 0; packet < 2; packet++) {
         uint64_t now = (uint64_t)packet * 50000000;
         check("ALLOCATE", yarrowdoor_poll_transmit(client, now, buffer, BUFFER, &answer), YARROWDOOR_PACKET);
-        check("answer", yarrowdoor_recv(client, YARROWDOOR_UDP, &s.remote, &s.local, bytes, decode(RECEIVED[packet], bytes),
-                                        now, buffer, BUFFER, &answer), YARROWDOOR_HANDLED);
+        check("answer",
+              yarrowdoor_recv(client, YARROWDOOR_UDP, &s.remote, &s.local, bytes, decode(RECEIVED[packet], bytes), now,
+                              buffer, BUFFER, &answer),
+              YARROWDOOR_HANDLED);
     }
     check("event", yarrowdoor_poll_event(client, &answer), YARROWDOOR_ALLOCATION_CREATED);
     /* after the pause that follows the last packet, for which a client also asks to be called */
@@ -571,7 +579,8 @@ static void null_pointers(const yarrowdoor_settings *s)
     check("nothing in no buffer", answer.len == 0 && answer.left > 0, 1);
     check("all of it", yarrowdoor_read(client, buffer, BUFFER, &answer), YARROWDOOR_BYTES);
     check("an empty datagram",
-          yarrowdoor_recv(client, YARROWDOOR_UDP, &s->remote, &s->local, NULL, 0, 0, NULL, 0, &answer), YARROWDOOR_IGNORED);
+          yarrowdoor_recv(client, YARROWDOOR_UDP, &s->remote, &s->local, NULL, 0, 0, NULL, 0, &answer),
+          YARROWDOOR_IGNORED);
     yarrowdoor_free(client);
     yarrowdoor_free(NULL);
 }
@@ -589,11 +598,13 @@ int main(void)
     check("the default limit", challenged_twice(&settings, 0), YARROWDOOR_NOTHING);
     check("the usual limit", challenged_twice(&settings, settings.max_stale_nonces), YARROWDOOR_NOTHING);
     check("the usual limit", settings.max_stale_nonces, 256);
+    check("timed from the first packet", settings.timed_from_send, 1);
     for (size_t size = 0; size < 200; size++) {
         small_packets(&settings, size);
     }
     /* so long after the first packet, which was sent at 0 */
-    check("the usual pause", (uint32_t)second_time(&settings, 0), 50000000);
+    check("the usual pause", (uint32_t)second_time(&settings, settings.request_cadence), 5000000);
+    check("the default pause", (uint32_t)second_time(&settings, 0), 50000000);
     check("a pause of 7 ms", (uint32_t)second_time(&settings, 7000000), 7000000);
     check("no pause", (uint32_t)second_time(&settings, YARROWDOOR_NO_PAUSE), 0);
     /* the lifetime is 1,000 s, from 50 ms on, when the last packet was sent */

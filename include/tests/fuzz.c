@@ -22,10 +22,10 @@ struct run {
     yarrowdoor_settings settings;
     yarrowdoor_address peer, data_local;
     uint64_t now;
-    uint64_t unread;      /* bytes of an answer that are left */
-    uint8_t sent[1500];   /* the last packet that fits */
+    uint64_t unread;    /* bytes of an answer that are left */
+    uint8_t sent[1500]; /* the last packet that fits */
     size_t sent_len;
-    uint32_t connection;  /* the number of the connection that was last offered */
+    uint32_t connection; /* the number of the connection that was last offered */
 };
 
 static uint8_t buffer[MOST + 512 + GUARD];
@@ -72,7 +72,8 @@ static void prepare(yarrowdoor_answer *answer, size_t room)
 }
 
 /* What holds of each answer: it is one of so many kinds, and its reserved bytes are 0. */
-static void expect_answer(uint32_t kind, const yarrowdoor_answer *answer, size_t room, const uint32_t *kinds, size_t count)
+static void expect_answer(uint32_t kind, const yarrowdoor_answer *answer, size_t room, const uint32_t *kinds,
+                          size_t count)
 {
     size_t place;
     int is_known = kind == YARROWDOOR_OUT_OF_MEMORY;
@@ -113,10 +114,10 @@ static void pass_in(struct run *run, const uint8_t *bytes, size_t len, const yar
     yarrowdoor_answer answer;
     uint32_t kind;
     prepare(&answer, room);
-    kind = yarrowdoor_recv(run->client, run->settings.transport, &run->settings.remote, to, bytes, len, run->now, buffer,
-                           room, &answer);
-    EXPECT(kind, &answer, room, YARROWDOOR_HANDLED, YARROWDOOR_IGNORED, YARROWDOOR_PEER_DATA, YARROWDOOR_PEER_DATA_RANGE,
-           YARROWDOOR_PEER_ICMP, YARROWDOOR_UNREAD_BYTES);
+    kind = yarrowdoor_recv(run->client, run->settings.transport, &run->settings.remote, to, bytes, len, run->now,
+                           buffer, room, &answer);
+    EXPECT(kind, &answer, room, YARROWDOOR_HANDLED, YARROWDOOR_IGNORED, YARROWDOOR_PEER_DATA,
+           YARROWDOOR_PEER_DATA_RANGE, YARROWDOOR_PEER_ICMP, YARROWDOOR_UNREAD_BYTES);
     expect_unread(run, kind, &answer, room);
     if (kind == YARROWDOOR_PEER_DATA_RANGE) {
         expect(answer.start <= len && answer.len <= len - answer.start, "data outside of the bytes passed in");
@@ -142,11 +143,11 @@ static void serve(struct run *run, struct input *in, int is_challenge)
 {
     static const uint8_t key[16] = {0x84, 0x93, 0xfb, 0xc5, 0x3b, 0xa5, 0x82, 0xfb,
                                     0x4c, 0x04, 0x4c, 0x45, 0x6b, 0xdc, 0x40, 0xeb};
-    static const uint8_t challenge[] = {0, 9, 0, 4, 0, 0, 4, 1, 0, 0x14, 0, 5, 'r', 'e', 'a', 'l', 'm', 0, 0, 0,
-                                        0, 0x15, 0, 1, 'n', 0, 0, 0};
+    static const uint8_t challenge[] = {0,   9,   0,   4, 0, 0, 4, 1,    0, 0x14, 0,   5, 'r', 'e',
+                                        'a', 'l', 'm', 0, 0, 0, 0, 0x15, 0, 1,    'n', 0, 0,   0};
     /* LIFETIME of 600 s, XOR-RELAYED-ADDRESS of 10.0.0.4:40000, and a CONNECTION-ID */
-    static const uint8_t granted[] = {0, 0x0d, 0, 4, 0, 0, 2, 0x58, 0, 0x16, 0, 8, 0, 1, 0xbd, 0x52,
-                                      0x2b, 0x12, 0xa4, 0x46, 0, 0x2a, 0, 4, 0, 0, 0, 1};
+    static const uint8_t granted[] = {0,    0x0d, 0,    4,    0,    0,    2, 0x58, 0, 0x16, 0, 8, 0, 1,
+                                      0xbd, 0x52, 0x2b, 0x12, 0xa4, 0x46, 0, 0x2a, 0, 4,    0, 0, 0, 1};
     uint8_t text[20 + sizeof granted + 24 + 512];
     size_t len = 20, body = is_challenge ? sizeof challenge : sizeof granted, behind;
     uint8_t *more, code = take(in);
@@ -205,12 +206,14 @@ static void hint(struct input *in)
     kind = yarrowdoor_read_message(transport, bytes, len, &said);
     expect(kind == said.kind, "a message of another kind than was returned");
     expect(kind == YARROWDOOR_MESSAGE || kind == YARROWDOOR_CHANNEL_DATA || kind == YARROWDOOR_NO_FRAME ||
-               (kind == YARROWDOOR_NOTHING && transport == YARROWDOOR_TCP), "a kind that is no message's");
+               (kind == YARROWDOOR_NOTHING && transport == YARROWDOOR_TCP),
+           "a kind that is no message's");
     expect(said.len <= len, "a frame that is longer than the bytes");
     expect(said.reason_at <= len && said.reason_len <= len - said.reason_at, "a reason outside of the bytes");
     expect(said.realm_at <= len && said.realm_len <= len - said.realm_at, "a realm outside of the bytes");
     found = yarrowdoor_read_attribute(bytes, len, (uint16_t)(len ? bytes[len / 2] : 0), &start, &value);
-    expect(found == YARROWDOOR_YES || (found == YARROWDOOR_NO && start == 0 && value == 0), "an attribute that is none");
+    expect(found == YARROWDOOR_YES || (found == YARROWDOOR_NO && start == 0 && value == 0),
+           "an attribute that is none");
     expect(start <= len && value <= len - start, "an attribute outside of the bytes");
     free(bytes);
 }
@@ -222,11 +225,12 @@ static void send_data(struct run *run, struct input *in)
     uint8_t *data = take_bytes(in, &len);
     uint32_t kind;
     prepare(&answer, room);
-    kind = yarrowdoor_send_to(run->client, run->settings.allocation_transport, &run->peer, data, len, run->now, buffer, room,
-                              &answer);
+    kind = yarrowdoor_send_to(run->client, run->settings.allocation_transport, &run->peer, data, len, run->now, buffer,
+                              room, &answer);
     EXPECT(kind, &answer, room, YARROWDOOR_PACKET, YARROWDOOR_REFUSED, YARROWDOOR_SMALL_BUFFER);
     expect(kind != YARROWDOOR_OUT_OF_MEMORY, "a call that takes no memory has none");
-    expect((kind == YARROWDOOR_SMALL_BUFFER) == (room < len + YARROWDOOR_MAX_OVERHEAD), "a buffer is too small, or is not");
+    expect((kind == YARROWDOOR_SMALL_BUFFER) == (room < len + YARROWDOOR_MAX_OVERHEAD),
+           "a buffer is too small, or is not");
     expect(kind != YARROWDOOR_PACKET || (answer.len <= room && answer.left == 0), "a packet that does not fit");
     free(data);
 }
@@ -238,12 +242,13 @@ static void send_head(struct run *run, struct input *in)
     size_t len = take(in), room = YARROWDOOR_MAX_OVERHEAD - (take(in) & 1);
     uint32_t kind;
     prepare(&answer, room);
-    kind = yarrowdoor_send_head(run->client, run->settings.allocation_transport, &run->peer, len, run->now, buffer, room,
-                                &answer);
+    kind = yarrowdoor_send_head(run->client, run->settings.allocation_transport, &run->peer, len, run->now, buffer,
+                                room, &answer);
     EXPECT(kind, &answer, room, YARROWDOOR_PACKET, YARROWDOOR_REFUSED, YARROWDOOR_SMALL_BUFFER);
     expect(kind != YARROWDOOR_OUT_OF_MEMORY, "a call that takes no memory has none");
     expect((kind == YARROWDOOR_SMALL_BUFFER) == (room < YARROWDOOR_MAX_OVERHEAD), "a buffer is too small, or is not");
-    expect(kind != YARROWDOOR_PACKET || (answer.len <= 48 && answer.start <= 3 && answer.left == 0), "a head that is too long");
+    expect(kind != YARROWDOOR_PACKET || (answer.len <= 48 && answer.start <= 3 && answer.left == 0),
+           "a head that is too long");
 }
 
 static void read_rest(struct run *run, size_t room)
@@ -281,8 +286,10 @@ static void give_up(struct run *run, size_t room)
     if (kind == YARROWDOOR_PACKET || kind == YARROWDOOR_NOTHING) {
         while (yarrowdoor_poll_event(run->client, &answer) != YARROWDOOR_NOTHING) {
         }
-        expect(yarrowdoor_poll(run->client, run->now, &answer) == YARROWDOOR_CLOSED, "a client that was given up goes on");
-        expect(yarrowdoor_relayed_address(run->client, 0, &answer) == YARROWDOOR_NOTHING, "a grant of a client that was given up");
+        expect(yarrowdoor_poll(run->client, run->now, &answer) == YARROWDOOR_CLOSED,
+               "a client that was given up goes on");
+        expect(yarrowdoor_relayed_address(run->client, 0, &answer) == YARROWDOOR_NOTHING,
+               "a grant of a client that was given up");
     }
 }
 
@@ -294,6 +301,8 @@ static void request(struct run *run, uint8_t which)
     yarrowdoor_answer answer;
     uint32_t kind;
     prepare(&answer, 0);
+    /* each call in a line of its own */
+    /* clang-format off */
     switch (which % 8) {
     case 0: kind = yarrowdoor_create_permission(client, relayed, &run->peer, run->now, &answer); break;
     case 1: kind = yarrowdoor_bind_channel(client, relayed, &run->peer, run->now, &answer); break;
@@ -309,6 +318,7 @@ static void request(struct run *run, uint8_t which)
     default:
         kind = which == 255 ? yarrowdoor_protocol_error(client, &answer) : yarrowdoor_delete(client, run->now, &answer);
     }
+    /* clang-format on */
     EXPECT(kind, &answer, 0, YARROWDOOR_DONE, YARROWDOOR_REFUSED);
     expect(answer.error <= YARROWDOOR_ERROR_NOT_GRANTED, "an error that is none");
 }
@@ -327,7 +337,8 @@ static void list(struct run *run, uint8_t which)
         expect(kind == YARROWDOOR_NOTHING || answer.id > cursor, "a cursor that does not move on");
         cursor = answer.id;
         expect(yarrowdoor_next_permission(run->client, run->settings.allocation_transport, &nowhere, cursor, &answer) ==
-                   YARROWDOOR_BAD_CALL, "permissions of no address");
+                   YARROWDOOR_BAD_CALL,
+               "permissions of no address");
     } while (kind == YARROWDOOR_ADDRESS);
 }
 
@@ -371,6 +382,8 @@ static void step(struct run *run, struct input *in)
     uint8_t what = take(in);
     size_t room = rooms[what >> 4 & 3];
     run->now += (uint64_t)(what >> 6) * take(in) * (SECOND / 10);
+    /* each call in a line of its own */
+    /* clang-format off */
     switch (what % 16) {
     case 0: case 1: transmit(run, room); break;
     case 2: case 3: serve(run, in, 0); break;
@@ -393,6 +406,7 @@ static void step(struct run *run, struct input *in)
         break;
     default: look(run, take(in));
     }
+    /* clang-format on */
 }
 
 /* A request that is granted, or challenged. */

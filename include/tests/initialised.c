@@ -7,8 +7,8 @@
 
 uint32_t real_new(const yarrowdoor_settings *settings, const uint8_t *user, size_t user_len, const uint8_t *password,
                   size_t password_len, const uint8_t *seed, size_t seed_len, yarrowdoor **place);
-uint32_t real_call(yarrowdoor *client, const yarrowdoor_request *request, const uint8_t *bytes, size_t bytes_len, uint8_t *buffer,
-                   size_t buffer_len, yarrowdoor_answer *answer);
+uint32_t real_call(yarrowdoor *client, const yarrowdoor_request *request, const uint8_t *bytes, size_t bytes_len,
+                   uint8_t *buffer, size_t buffer_len, yarrowdoor_answer *answer);
 uint32_t real_look(const yarrowdoor *client, const yarrowdoor_request *request, yarrowdoor_answer *answer);
 uint32_t real_read_message(uint32_t transport, const uint8_t *bytes, size_t len, yarrowdoor_message *message);
 uint32_t real_read_attribute(const uint8_t *bytes, size_t len, uint16_t type, size_t *start, size_t *value_len);
@@ -20,8 +20,9 @@ static void look_at(const void *at, size_t len)
     }
 }
 
-uint32_t yarrowdoor_new(const yarrowdoor_settings *settings, const uint8_t *user, size_t user_len, const uint8_t *password,
-                        size_t password_len, const uint8_t *seed, size_t seed_len, yarrowdoor **place)
+uint32_t yarrowdoor_new(const yarrowdoor_settings *settings, const uint8_t *user, size_t user_len,
+                        const uint8_t *password, size_t password_len, const uint8_t *seed, size_t seed_len,
+                        yarrowdoor **place)
 {
     look_at(settings, sizeof *settings);
     look_at(user, user_len);

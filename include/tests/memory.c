@@ -42,11 +42,13 @@ static void copy(size_t len, size_t to, size_t from)
     fill(found, (uint32_t)len);
     memcpy(wanted, found, ROOM);
     memcpy(wanted + to, source + from, len);
-    check(own_memcpy(found + to, source + from, len) == found + to && memcmp(found, wanted, ROOM) == 0, "memcpy", len, to);
+    check(own_memcpy(found + to, source + from, len) == found + to && memcmp(found, wanted, ROOM) == 0, "memcpy", len,
+          to);
     fill(found, (uint32_t)len);
     memcpy(wanted, found, ROOM);
     memmove(wanted + to, wanted + from, len);
-    check(own_memmove(found + to, found + from, len) == found + to && memcmp(found, wanted, ROOM) == 0, "memmove", len, to);
+    check(own_memmove(found + to, found + from, len) == found + to && memcmp(found, wanted, ROOM) == 0, "memmove", len,
+          to);
 }
 
 static void set(size_t len, size_t to)
@@ -54,7 +56,8 @@ static void set(size_t len, size_t to)
     fill(found, (uint32_t)len);
     memcpy(wanted, found, ROOM);
     memset(wanted + to, (int)len + 0x1280, len);
-    check(own_memset(found + to, (int)len + 0x1280, len) == found + to && memcmp(found, wanted, ROOM) == 0, "memset", len, to);
+    check(own_memset(found + to, (int)len + 0x1280, len) == found + to && memcmp(found, wanted, ROOM) == 0, "memset",
+          len, to);
 }
 
 static int sign(int value)
@@ -100,7 +103,8 @@ int main(int count, char **words)
     if (count > 1) {
         size_t len = strtoul(words[1], NULL, 10);
         len = len < ROOM ? len : ROOM;
-        printf("%zu bytes: %.1f ns, by the C library %.1f ns\n", len, nanoseconds(own_memcpy, len), nanoseconds(memcpy, len));
+        printf("%zu bytes: %.1f ns, by the C library %.1f ns\n", len, nanoseconds(own_memcpy, len),
+               nanoseconds(memcpy, len));
         return 0;
     }
     for (size_t i = 0; i < MANY + sizeof longer / sizeof longer[0]; i++) {

@@ -49,7 +49,8 @@ int main(int argc, char **argv)
                     (is_inside && strcmp(line, "};\n") != 0);
     }
     fclose(header);
-    if (kinds != YARROWDOOR_NO_FRAME || errors != YARROWDOOR_ERROR_NOT_GRANTED) { /* the last numbers: each up to them is one */
+    if (kinds != YARROWDOOR_NO_FRAME ||
+        errors != YARROWDOOR_ERROR_NOT_GRANTED) { /* the last numbers: each up to them is one */
         fprintf(stderr, "names: the header has %u kinds and %u errors\n", kinds, errors);
         return 1;
     }

@@ -64,7 +64,9 @@ static void open_client(void)
     static const uint8_t seed[32] = {7};
     yarrowdoor_settings settings = yarrowdoor_settings_of(YARROWDOOR_UDP, &local, &server);
     settings.request_cadence = YARROWDOOR_NO_PAUSE;
-    check(yarrowdoor_new(&settings, (const uint8_t *)"user", 4, (const uint8_t *)"pass", 4, seed, sizeof seed, &client) == 0, "new");
+    check(yarrowdoor_new(&settings, (const uint8_t *)"user", 4, (const uint8_t *)"pass", 4, seed, sizeof seed,
+                         &client) == 0,
+          "new");
     serve();
     for (uint32_t number = 0; number < COUNT; number++) {
         permit(number);
@@ -98,14 +100,17 @@ static void same_as_at_each_index(void)
     for (uint32_t index = 0; index < COUNT; index++) {
         yarrowdoor_address wanted = peer(index);
         check(yarrowdoor_permission(client, YARROWDOOR_UDP, &relayed, index, &at) == YARROWDOOR_ADDRESS, "an index");
-        check(yarrowdoor_next_permission(client, YARROWDOOR_UDP, &relayed, cursor, &next) == YARROWDOOR_ADDRESS, "a cursor");
+        check(yarrowdoor_next_permission(client, YARROWDOOR_UDP, &relayed, cursor, &next) == YARROWDOOR_ADDRESS,
+              "a cursor");
         check(yarrowdoor_is_same_address(&next.peer, &wanted), "another permission");
         cursor = next.id;
         next.id = 0;
         check(memcmp(&next, &at, sizeof at) == 0, "another answer than at the index");
     }
-    check(yarrowdoor_permission(client, YARROWDOOR_UDP, &relayed, COUNT, &at) == YARROWDOOR_NOTHING, "an index behind the end");
-    check(yarrowdoor_next_permission(client, YARROWDOOR_UDP, &relayed, cursor, &next) == YARROWDOOR_NOTHING, "a cursor at the end");
+    check(yarrowdoor_permission(client, YARROWDOOR_UDP, &relayed, COUNT, &at) == YARROWDOOR_NOTHING,
+          "an index behind the end");
+    check(yarrowdoor_next_permission(client, YARROWDOOR_UDP, &relayed, cursor, &next) == YARROWDOOR_NOTHING,
+          "a cursor at the end");
     check(memcmp(&next, &at, sizeof at) == 0, "another answer than behind the end");
 }
 
@@ -141,8 +146,10 @@ static void nothing_or_refused(void)
         uint32_t cursor = behind[i];
         check(count_from(&cursor) == 0, "a cursor behind the end");
     }
-    check(yarrowdoor_next_permission(client, YARROWDOOR_UDP, &other, 0, &answer) == YARROWDOOR_NOTHING, "another relayed address");
-    check(yarrowdoor_next_permission(client, YARROWDOOR_TCP, &relayed, 0, &answer) == YARROWDOOR_NOTHING, "another transport");
+    check(yarrowdoor_next_permission(client, YARROWDOOR_UDP, &other, 0, &answer) == YARROWDOOR_NOTHING,
+          "another relayed address");
+    check(yarrowdoor_next_permission(client, YARROWDOOR_TCP, &relayed, 0, &answer) == YARROWDOOR_NOTHING,
+          "another transport");
     check(yarrowdoor_next_permission(client, 2, &relayed, 0, &answer) == YARROWDOOR_BAD_CALL, "no transport");
     request = yarrowdoor_request_of(YARROWDOOR_CALL_NEXT_PERMISSION, 0);
     check(looked_at(&request) == YARROWDOOR_BAD_CALL, "no relayed address");
@@ -154,7 +161,8 @@ static void nothing_or_refused(void)
     bad.time = YARROWDOOR_MAX_TIME + 1;
     check(looked_at(&bad) == YARROWDOOR_BAD_TIME, "a late time");
     memset(&answer, 0, sizeof answer);
-    check(yarrowdoor_call(client, &request, NULL, 0, NULL, 0, &answer) == YARROWDOOR_BAD_CALL, "a call that only looks");
+    check(yarrowdoor_call(client, &request, NULL, 0, NULL, 0, &answer) == YARROWDOOR_BAD_CALL,
+          "a call that only looks");
 }
 
 /* A permission is granted while they are listed. */
@@ -162,7 +170,8 @@ static void granted_meanwhile(void)
 {
     yarrowdoor_answer answer;
     uint32_t cursor = 0;
-    check(yarrowdoor_next_permission(client, YARROWDOOR_UDP, &relayed, cursor, &answer) == YARROWDOOR_ADDRESS, "the first one");
+    check(yarrowdoor_next_permission(client, YARROWDOOR_UDP, &relayed, cursor, &answer) == YARROWDOOR_ADDRESS,
+          "the first one");
     cursor = answer.id;
     permit(COUNT + 1);
     check(count_from(&cursor) == COUNT, "one that was granted meanwhile");

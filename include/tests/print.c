@@ -44,7 +44,8 @@ static void print_transport(FILE *out, uint32_t transport)
 
 static void print_refusal(FILE *out, const yarrowdoor_answer *a)
 {
-    static const char *const words[] = {"", "already-exists", "no-allocation", "no-permission", "no-socket", "", "not-granted"};
+    static const char *const words[] = {"", "already-exists", "no-allocation", "no-permission", "no-socket",
+                                        "", "not-granted"};
     if (a->error == YARROWDOOR_ERROR_EXPIRED) {
         fprintf(out, "refused expired %" PRIu64, a->time);
     } else {

@@ -28,7 +28,8 @@ static const struct secret {
     const char *name;
     const void *at;
     size_t len;
-} secrets[SECRETS] = {{"the password", PASSWORD, sizeof PASSWORD - 1}, {"the key", KEY, sizeof KEY}, {"the seed", SEED, 32}};
+} secrets[SECRETS] = {
+    {"the password", PASSWORD, sizeof PASSWORD - 1}, {"the key", KEY, sizeof KEY}, {"the seed", SEED, 32}};
 
 static struct block {
     unsigned char *at;
@@ -111,7 +112,8 @@ void *__wrap_realloc(void *at, size_t size)
 static yarrowdoor *new_client(const yarrowdoor_settings *settings)
 {
     yarrowdoor *client;
-    if (yarrowdoor_new(settings, (const uint8_t *)"user", 4, (const uint8_t *)PASSWORD, sizeof PASSWORD - 1, SEED, 32, &client)) {
+    if (yarrowdoor_new(settings, (const uint8_t *)"user", 4, (const uint8_t *)PASSWORD, sizeof PASSWORD - 1, SEED, 32,
+                       &client)) {
         fail("no client", "");
     }
     return client;
@@ -130,8 +132,8 @@ static size_t transmit(yarrowdoor *client, uint64_t now, uint8_t *packet, size_t
 /* A 401 with the realm "realm" and a nonce, to the request of this ID. */
 static void challenge(yarrowdoor *client, const yarrowdoor_settings *settings, const uint8_t *request)
 {
-    static const uint8_t attributes[] = {0, 9, 0, 4, 0, 0, 4, 1, 0, 0x14, 0, 5, 'r', 'e', 'a', 'l', 'm', 0, 0, 0,
-                                         0, 0x15, 0, 8, 'a', ' ', 'n', 'o', 'n', 'c', 'e', '!'};
+    static const uint8_t attributes[] = {0,   9, 0, 4, 0, 0,    4, 1, 0,   0x14, 0,   5,   'r', 'e', 'a', 'l',
+                                         'm', 0, 0, 0, 0, 0x15, 0, 8, 'a', ' ',  'n', 'o', 'n', 'c', 'e', '!'};
     uint8_t response[20 + sizeof attributes];
     yarrowdoor_answer answer;
     memcpy(response, request, 20);
@@ -140,8 +142,8 @@ static void challenge(yarrowdoor *client, const yarrowdoor_settings *settings, c
     response[2] = 0;
     response[3] = sizeof attributes;
     memcpy(response + 20, attributes, sizeof attributes);
-    if (yarrowdoor_recv(client, YARROWDOOR_UDP, &settings->remote, &settings->local, response, sizeof response, 0, NULL, 0,
-                        &answer) != YARROWDOOR_HANDLED) {
+    if (yarrowdoor_recv(client, YARROWDOOR_UDP, &settings->remote, &settings->local, response, sizeof response, 0, NULL,
+                        0, &answer) != YARROWDOOR_HANDLED) {
         fail("the challenge is not answered", "");
     }
 }

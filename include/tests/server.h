@@ -18,11 +18,11 @@ static inline size_t write_answer(const uint8_t *request, size_t request_len, ui
     static const uint8_t key[16] = {0x84, 0x93, 0xfb, 0xc5, 0x3b, 0xa5, 0x82, 0xfb,
                                     0x4c, 0x04, 0x4c, 0x45, 0x6b, 0xdc, 0x40, 0xeb};
     static const uint8_t integrity[] = {0, 8, 0, 20};
-    static const uint8_t challenge[] = {0, 9, 0, 4, 0, 0, 4, 1, 0, 0x14, 0, 5, 'r', 'e', 'a', 'l', 'm', 0, 0, 0,
-                                        0, 0x15, 0, 1, 'n', 0, 0, 0};
+    static const uint8_t challenge[] = {0,   9,   0,   4, 0, 0, 4, 1,    0, 0x14, 0,   5, 'r', 'e',
+                                        'a', 'l', 'm', 0, 0, 0, 0, 0x15, 0, 1,    'n', 0, 0,   0};
     /* LIFETIME of 600 s, XOR-RELAYED-ADDRESS of 10.0.0.4:40000, and a CONNECTION-ID */
-    static const uint8_t granted[] = {0, 0x0d, 0, 4, 0, 0, 2, 0x58, 0, 0x16, 0, 8, 0, 1, 0xbd, 0x52,
-                                      0x2b, 0x12, 0xa4, 0x46, 0, 0x2a, 0, 4, 0, 0, 0, 1};
+    static const uint8_t granted[] = {0,    0x0d, 0,    4,    0,    0,    2, 0x58, 0, 0x16, 0, 8, 0, 1,
+                                      0xbd, 0x52, 0x2b, 0x12, 0xa4, 0x46, 0, 0x2a, 0, 4,    0, 0, 0, 1};
     const int is_signed = request_len >= 44 && memcmp(request + request_len - 24, integrity, sizeof integrity) == 0;
     const size_t body = is_signed ? sizeof granted : sizeof challenge, len = 20 + body;
     memcpy(text, request, 20);

@@ -46,7 +46,9 @@ static void *nothing(void *argument)
 static void *new_client(void *argument)
 {
     static const uint8_t seed[32] = {7};
-    check(yarrowdoor_new(&settings, (const uint8_t *)"user", 4, (const uint8_t *)"pass", 4, seed, sizeof seed, &client) == 0, "new");
+    check(yarrowdoor_new(&settings, (const uint8_t *)"user", 4, (const uint8_t *)"pass", 4, seed, sizeof seed,
+                         &client) == 0,
+          "new");
     return argument;
 }
 
@@ -58,7 +60,8 @@ static void *poll_transmit(void *argument)
 
 static void *receive(void *argument)
 {
-    uint32_t kind = yarrowdoor_recv(client, settings.transport, &server, &local, reply, reply_len, now, buffer, sizeof buffer, &answer);
+    uint32_t kind = yarrowdoor_recv(client, settings.transport, &server, &local, reply, reply_len, now, buffer,
+                                    sizeof buffer, &answer);
     check(kind == YARROWDOOR_HANDLED, "recv");
     return argument;
 }
@@ -77,7 +80,8 @@ static void *poll_client(void *argument)
 
 static void *create_permission(void *argument)
 {
-    check(yarrowdoor_create_permission(client, YARROWDOOR_UDP, &peer, now, &answer) == YARROWDOOR_DONE, "create_permission");
+    check(yarrowdoor_create_permission(client, YARROWDOOR_UDP, &peer, now, &answer) == YARROWDOOR_DONE,
+          "create_permission");
     return argument;
 }
 
@@ -89,7 +93,8 @@ static void *bind_channel(void *argument)
 
 static void *send_to(void *argument)
 {
-    uint32_t kind = yarrowdoor_send_to(client, YARROWDOOR_UDP, &peer, data, sizeof data, now, buffer, sizeof buffer, &answer);
+    uint32_t kind =
+        yarrowdoor_send_to(client, YARROWDOOR_UDP, &peer, data, sizeof data, now, buffer, sizeof buffer, &answer);
     check(kind == YARROWDOOR_PACKET, "send_to");
     return argument;
 }

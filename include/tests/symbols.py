@@ -139,7 +139,8 @@ def without_a_client():
 
 without_a_client()
 settings = call("settings_of", 0, ref(local), ref(remote))
-check("settings_of", (settings.max_stale_nonces, settings.family, settings.request_cadence), (256, 4, 0))
+usual = settings.max_stale_nonces, settings.family, settings.request_cadence, settings.timed_from_send
+check("settings_of", usual, (256, 4, 5_000_000, 1))
 user, password = (b"user", ctypes.c_size_t(4)), (b"pass", ctypes.c_size_t(4))
 check("new", call("new", ref(settings), *user, *password, bytes(32), ctypes.c_size_t(32), ref(client)), 0)
 exchange()

@@ -42,7 +42,8 @@ static void receive(size_t number, uint64_t now)
         sscanf(RECEIVED[number] + 2 * i, "%2x", &byte);
         bytes[i] = (uint8_t)byte;
     }
-    check("a response", yarrowdoor_recv(client, YARROWDOOR_UDP, &server, &local, bytes, len, now, buffer, BUFFER, &answer),
+    check("a response",
+          yarrowdoor_recv(client, YARROWDOOR_UDP, &server, &local, bytes, len, now, buffer, BUFFER, &answer),
           YARROWDOOR_HANDLED);
 }
 
@@ -55,13 +56,15 @@ static void begin(void)
     server = yarrowdoor_ipv4(10, 0, 0, 2, 2000);
     peer = yarrowdoor_ipv4(10, 0, 0, 3, 9000);
     yarrowdoor_settings settings = yarrowdoor_settings_of(YARROWDOOR_UDP, &local, &server);
-    check("a new client", yarrowdoor_new(&settings, (const uint8_t *)"user", 4, (const uint8_t *)"pass", 4, seed, 32, &client), 0);
+    check("a new client",
+          yarrowdoor_new(&settings, (const uint8_t *)"user", 4, (const uint8_t *)"pass", 4, seed, 32, &client), 0);
     for (size_t number = 0; number < 3; number++) {
         uint64_t now = number * 50000000;
         if (number == 2) {
             check("an event", yarrowdoor_poll_event(client, &answer), YARROWDOOR_ALLOCATION_CREATED);
             relayed = answer.peer;
-            check("a request", yarrowdoor_create_permission(client, YARROWDOOR_UDP, &peer, now, &answer), YARROWDOOR_DONE);
+            check("a request", yarrowdoor_create_permission(client, YARROWDOOR_UDP, &peer, now, &answer),
+                  YARROWDOOR_DONE);
         }
         check("a packet", yarrowdoor_poll_transmit(client, now, buffer, BUFFER, &answer), YARROWDOOR_PACKET);
         receive(number, now);

@@ -6,7 +6,7 @@ import { Time } from "./time.js";
  * fails as late as over UDP.
  */
 export interface Times {
-    /** When a request over UDP is transmitted for the second time, counted from when it was made. By default 500 ms. */
+    /** How long after the first transmission over UDP a request is transmitted again. By default 500 ms. */
     readonly initial?: Time;
     /** The longest wait between two transmissions; each is twice the one before. */
     readonly longest?: Time;
@@ -50,8 +50,8 @@ export interface Settings {
     /** How long before its expiry a permission or channel is refreshed, at least a second. By default 60 s. */
     readonly refreshAhead?: Time;
     /**
-     * Whether a request waits for its response from when its first packet is taken (RFC 8489, section 6.2.1). By default it does so
-     * from when it is made, also if it still waits in the queue.
+     * Whether a request waits for its response from when its first packet is taken (RFC 8489, section 6.2.1), as by default. With
+     * false it does so from when it is made, also while it is queued.
      */
     readonly timedFromSend?: boolean;
     /** The 32 bytes that transaction IDs are made from, which nobody else knows. By default random ones. */

@@ -95,7 +95,7 @@ export function putSettings(module, given) {
         numberOf(ANONYMOUS, given.anonymous ?? "auto", "anonymous")];
     words.forEach((word, index) => view.setUint32(at + SETTINGS.TRANSPORT + 4 * index, word, true));
     view.setUint16(at + SETTINGS.MAX_STALE_NONCES, maxStaleNonces, true);
-    view.setUint16(at + SETTINGS.TIMED_FROM_SEND, given.timedFromSend ? 1 : 0, true);
+    view.setUint16(at + SETTINGS.TIMED_FROM_SEND, given.timedFromSend ?? true ? 1 : 0, true);
     putAddress(bytes, view, at + SETTINGS.LOCAL, given.local, "local");
     putAddress(bytes, view, at + SETTINGS.REMOTE, given.remote, "remote");
     putPauses(view, at, given);

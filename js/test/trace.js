@@ -81,7 +81,7 @@ export function parseTrace(text) {
         return { calls, bad: "line 0: bad size" };
     }
     try {
-        head = fieldsOf(texts, texts.length > 10 ? { ...HEAD, times } : HEAD);
+        head = { ...fieldsOf(texts, texts.length > 10 ? { ...HEAD, times } : HEAD), timedFromSend: false };
         lines.forEach((line) => calls.push(calls.length < MAX_CALLS ? callOf(line, head) : bad("size")));
         return { head, calls };
     } catch (error) {

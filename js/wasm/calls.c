@@ -10,9 +10,10 @@ typedef __UINT8_TYPE__ u8;
 /* The bytes of an answer (yarrowdoor_answer). */
 #define ANSWER 160UL
 
-u32 yarrowdoor_new(const void *settings, const u8 *user, u64 user_len, const u8 *password, u64 password_len, const u8 *seed,
-                   u64 seed_len, void **place);
-u32 yarrowdoor_call(void *client, const void *request, const u8 *bytes, u64 bytes_len, u8 *buffer, u64 buffer_len, void *answer);
+u32 yarrowdoor_new(const void *settings, const u8 *user, u64 user_len, const u8 *password, u64 password_len,
+                   const u8 *seed, u64 seed_len, void **place);
+u32 yarrowdoor_call(void *client, const void *request, const u8 *bytes, u64 bytes_len, u8 *buffer, u64 buffer_len,
+                    void *answer);
 u32 yarrowdoor_look(const void *client, const void *request, void *answer);
 u32 yarrowdoor_read_message(u32 transport, const u8 *bytes, u64 len, void *message);
 u32 yarrowdoor_read_attribute(const u8 *bytes, u64 len, u32 type, u64 *start, u64 *value_len);
@@ -20,7 +21,10 @@ u64 yarrowdoor_kept_grants(const void *load, u64 request_cadence, u64 refresh_ah
 u64 yarrowdoor_longest_cadence(const void *load, u64 count, u64 refresh_ahead);
 void yarrowdoor_free(void *client);
 
-static void *at(u32 place) { return (void *)(u64)place; }
+static void *at(u32 place)
+{
+    return (void *)(u64)place;
+}
 
 static void clear(u8 *answer)
 {
@@ -30,19 +34,20 @@ static void clear(u8 *answer)
 }
 
 /* As yarrowdoor_new. The client is put as 32 bits. */
-__attribute__((export_name("client_new"))) u32 client_new(u32 settings, u32 user, u32 user_len, u32 password, u32 password_len,
-                                                          u32 seed, u32 seed_len, u32 place)
+__attribute__((export_name("client_new"))) u32 client_new(u32 settings, u32 user, u32 user_len, u32 password,
+                                                          u32 password_len, u32 seed, u32 seed_len, u32 place)
 {
     void *client = 0;
-    u32 kind = yarrowdoor_new(at(settings), at(user), user_len, at(password), password_len, at(seed), seed_len, &client);
+    u32 kind =
+        yarrowdoor_new(at(settings), at(user), user_len, at(password), password_len, at(seed), seed_len, &client);
     *(u32 *)at(place) = (u32)(u64)client;
     return kind;
 }
 
 /* As yarrowdoor_call, with the answer set to 0 before. `now` is the time of the request, whole nanoseconds up to 2^62, or less
    than 0, and then it is the one that stands in the request. */
-__attribute__((export_name("client_call"))) u32 client_call(u32 client, u32 request, double now, u32 bytes, u32 bytes_len,
-                                                            u32 buffer, u32 buffer_len, u32 answer)
+__attribute__((export_name("client_call"))) u32 client_call(u32 client, u32 request, double now, u32 bytes,
+                                                            u32 bytes_len, u32 buffer, u32 buffer_len, u32 answer)
 {
     if (now >= 0) {
         *(u64 *)at(request) = (u64)now;
@@ -59,7 +64,10 @@ __attribute__((export_name("client_look"))) u32 client_look(u32 client, u32 requ
 }
 
 /* As yarrowdoor_free. */
-__attribute__((export_name("client_free"))) void client_free(u32 client) { yarrowdoor_free(at(client)); }
+__attribute__((export_name("client_free"))) void client_free(u32 client)
+{
+    yarrowdoor_free(at(client));
+}
 
 /* As yarrowdoor_read_message. */
 __attribute__((export_name("read_message"))) u32 read_message(u32 transport, u32 bytes, u32 len, u32 message)

@@ -18,8 +18,8 @@ typedef __UINT8_TYPE__ u8;
 #define CLASSES 256
 
 struct block {
-    u64 before; /* bytes of the block in front, with its head; 0 where there is none */
-    u64 size;   /* bytes, with this head. The lowest bit: whether it is used */
+    u64 before;                    /* bytes of the block in front, with its head; 0 where there is none */
+    u64 size;                      /* bytes, with this head. The lowest bit: whether it is used */
     struct block *next, *previous; /* in the list of a free block */
 };
 
@@ -31,10 +31,22 @@ static u64 filled[CLASSES / 64]; /* a bit for each list that is not empty */
 static struct block *end;        /* the last head */
 static u64 limit = ~0UL;         /* bytes that the memory may have */
 
-static u64 size_of(const struct block *block) { return block->size & ~1UL; }
-static int is_used(const struct block *block) { return (int)(block->size & 1); }
-static struct block *behind(struct block *block) { return (struct block *)((u8 *)block + size_of(block)); }
-static struct block *front(struct block *block) { return (struct block *)((u8 *)block - block->before); }
+static u64 size_of(const struct block *block)
+{
+    return block->size & ~1UL;
+}
+static int is_used(const struct block *block)
+{
+    return (int)(block->size & 1);
+}
+static struct block *behind(struct block *block)
+{
+    return (struct block *)((u8 *)block + size_of(block));
+}
+static struct block *front(struct block *block)
+{
+    return (struct block *)((u8 *)block - block->before);
+}
 
 /* The class of a size: the power of two, and the three bits below its highest one. */
 static u32 class_of(u64 size)
@@ -151,7 +163,8 @@ static struct block *find_close(u64 size)
 /* A free block of this size or more, or 0. */
 static struct block *find(u64 size)
 {
-    u64 up = size + (1UL << (60 - __builtin_clzl(size))) - 1; /* into the first class of which each block is large enough */
+    u64 up =
+        size + (1UL << (60 - __builtin_clzl(size))) - 1; /* into the first class of which each block is large enough */
     u32 class = class_of(up);
     u64 bits = filled[class / 64] & (~0UL << class % 64);
     for (u32 word = class / 64; word < CLASSES / 64; word++, bits = word < CLASSES / 64 ? filled[word] : 0) {
@@ -172,15 +185,27 @@ static u64 block_size(u64 len)
 /* For tests: which allocation is refused, counted from 1; 0 for none. */
 static u32 refused;
 
-static int is_refused(void) { return refused && --refused == 0; }
+static int is_refused(void)
+{
+    return refused && --refused == 0;
+}
 
 /* Refuses one allocation, the one so many from now on. */
-__attribute__((export_name("refuse"))) void refuse(u32 which) { refused = which; }
+__attribute__((export_name("refuse"))) void refuse(u32 which)
+{
+    refused = which;
+}
 
 /* How many allocations were left to the refused one. */
-__attribute__((export_name("refuse_left"))) u32 refuse_left(void) { return refused; }
+__attribute__((export_name("refuse_left"))) u32 refuse_left(void)
+{
+    return refused;
+}
 #else
-static int is_refused(void) { return 0; }
+static int is_refused(void)
+{
+    return 0;
+}
 #endif
 
 static void *take(u64 len)
@@ -244,25 +269,40 @@ static struct given given(void *place)
     return it;
 }
 
-struct given rattle_alloc(u64 size, u64 align) { return given(take(size ? size : align)); }
+struct given rattle_alloc(u64 size, u64 align)
+{
+    return given(take(size ? size : align));
+}
 
 struct given rattle_realloc(void *place, u64 old, u64 size, u64 align)
 {
     return given(resize(place, old, size ? size : align));
 }
 
-void rattle_dealloc(void *place) { give(place); }
+void rattle_dealloc(void *place)
+{
+    give(place);
+}
 
 /* ---- what JavaScript asks for, by numbers of 32 bits */
 
 /* Memory of so many bytes at a multiple of 16, or 0. */
-__attribute__((export_name("alloc"))) u32 yarrowdoor_alloc(u32 len) { return (u32)(u64)take(len); }
+__attribute__((export_name("alloc"))) u32 yarrowdoor_alloc(u32 len)
+{
+    return (u32)(u64)take(len);
+}
 
 /* Gives memory back. */
-__attribute__((export_name("dealloc"))) void yarrowdoor_dealloc(u32 place) { give((void *)(u64)place); }
+__attribute__((export_name("dealloc"))) void yarrowdoor_dealloc(u32 place)
+{
+    give((void *)(u64)place);
+}
 
 /* Sets how many bytes the memory may have in all, with the stack and the module's data. What it has is kept. */
-__attribute__((export_name("limit"))) void yarrowdoor_limit(double most) { limit = most >= 4294967296.0 ? ~0UL : (u64)most; }
+__attribute__((export_name("limit"))) void yarrowdoor_limit(double most)
+{
+    limit = most >= 4294967296.0 ? ~0UL : (u64)most;
+}
 
 #ifdef YARROWDOOR_TEST
 /* For tests: as rattle_realloc. */

@@ -37,7 +37,7 @@ def client_of(head: str) -> sans_io.Client:
     return sans_io.Client(
         address(local), address(remote), from_hex(user), from_hex(password), transport=way, allocation=relay,
         families=[int(it) for it in families.split(",")], algorithms=signs.split(","), anonymous=hides, seed=from_hex(seed),
-        times=sans_io.Times(waits[0], waits[1], waits[3], waits[2]) if waits else None,
+        times=sans_io.Times(waits[0], waits[1], waits[3], waits[2]) if waits else None, timed_from_send=False,
     )
 
 

@@ -101,6 +101,8 @@ class Server:
             peer = unxored(message.attributes[0x0012])
             is_allowed = allocation and allocation.permissions.get(peer[0], 0) > now
             return [(message.attributes[0x0013], peer)] if is_allowed else []
+        if message.kind & 0x0110 == 0x0010:
+            return []  # No indication has an answer (RFC 8489, section 6.3.2).
         answer = self.answered.get((source, message.transaction))
         if answer is None:
             answer = self.answer(message, source, allocation, now)

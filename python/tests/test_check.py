@@ -113,6 +113,7 @@ class Dropped(unittest.TestCase):
         self.assertEqual((status, steps["udp"]["said"]), (1, f"port {port}: no answer"))
         self.assertIn("is blocked, and TCP is open", steps["udp"]["advice"])
         self.assertEqual((steps["messages"]["outcome"], steps["channels"]["outcome"]), ("ok", "ok"))
+        self.assertEqual(steps["payload"]["facts"]["bytes"], 1500)  # A longer one would end some servers over TCP.
 
 
 def has_ipv6() -> bool:

@@ -5,8 +5,7 @@ import struct
 import unittest
 from typing import Any, List
 
-from yarrowdoor import Address, Refused, TurnClient, address
-from yarrowdoor import client as sans_io
+from yarrowdoor import Address, Refused, TurnClient, address, client as sans_io
 from yarrowdoor.kept import MOST, Kept
 
 from .network import CLIENT, SECOND, Network, StreamEndpoint

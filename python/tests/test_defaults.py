@@ -5,14 +5,14 @@ import pathlib
 import unittest
 from typing import Any, Dict, List, Mapping
 
-from yarrowdoor import Client, Relay, TurnClient, sync
-from yarrowdoor import layout as c
+from yarrowdoor import Client, Relay, TurnClient, layout as c, sync
 from yarrowdoor.library import load
 from yarrowdoor.settings import Times
 
 PAGE = pathlib.Path(__file__).resolve().parents[2] / "docs" / "CONCEPTS.md"
 # Sums of the waits of RFC 8489, section 6.2.1: 0.5 s doubled six times, and 16 times 0.5 s at the end.
 WAITS = 39.5
+FROM = "a queued request waits from"
 
 
 def column(name: str) -> Dict[str, str]:
@@ -56,13 +56,15 @@ class Defaults(unittest.TestCase):
         make.argtypes, make.restype = (ctypes.c_uint32, ctypes.c_char_p, ctypes.c_char_p), Settings
         found = c.SETTINGS.unpack(bytes(make(c.UDP, c.NO_ADDRESS, c.NO_ADDRESS).bytes))
         has_waits, family, other, algorithm, second, anonymous, nonces = found[4], found[7], found[8], *found[9:13]
-        pause, keepalive, ahead = found[16:19]
+        from_send, pause, keepalive, ahead = found[13], *found[16:19]
         self.assertEqual((has_waits, family, other, algorithm, second, anonymous), (0, 4, 0, 1, 0, 0))
         self.assertEqual([page[it] for it in ("family of the relayed address", "algorithms", "user name hidden")],
                          ["IPv4", "SHA-1", "no"])
         # 0 is the library's own default, which docs/LIBRARY.md names.
-        self.assertEqual((pause, keepalive, ahead), (0, 0, 0))
-        self.assertEqual((page["pause between two requests"], page["keepalive"], page["refresh ahead"]), ("0.05", "never", "60"))
+        self.assertEqual((keepalive, ahead), (0, 0))
+        self.assertEqual((page["keepalive"], page["refresh ahead"]), ("never", "60"))
+        self.assertEqual(page["pause between two requests"], told(pause / 1e9))
+        self.assertEqual(page[FROM], {0: "its call", 1: "its first packet"}[from_send])
         self.assertEqual(page["challenges in a row"], str(nonces))
 
     def test_client_without_io(self) -> None:
@@ -70,6 +72,7 @@ class Defaults(unittest.TestCase):
         self.assertEqual(page["pause between two requests"], told(has["pause"] / 1e9))
         self.assertEqual(page["keepalive"], told(has["keepalive"] / 1e9))
         self.assertEqual(page["refresh ahead"], told(has["refresh_ahead"] / 1e9))
+        self.assertEqual(page[FROM], {False: "its call", True: "its first packet"}[has["timed_from_send"]])
         self.assertEqual(page["challenges in a row"], str(has["max_stale_nonces"]))
         self.assertEqual(page["algorithms"], ", ".join({"sha256": "SHA-256", "sha1": "SHA-1"}[it] for it in has["algorithms"]))
         self.assertEqual(page["a request fails after"], fails_after(has["times"]))

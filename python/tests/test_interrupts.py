@@ -1,10 +1,11 @@
 """Signals and forks in a program that uses a client without asyncio: nothing hangs, and all is given back."""
 import json
 import os
+import queue
 import threading
 import time
 import unittest
-from typing import Any, Callable, Dict, List
+from typing import Any, Callable, Dict, List, Optional
 from unittest import mock
 
 from yarrowdoor import Ended, Refused, handle, loop_thread, session, sync, threads
@@ -119,6 +120,33 @@ class Signals(unittest.TestCase):
         for thread in waiting:
             thread.join(12)
         self.assertEqual(ended, ["the client was closed"] * 2)
+
+
+    def test_an_end_that_is_not_passed_on(self) -> None:
+        """Since the thread that learns of it is interrupted then: each other one looks again after a while."""
+        inbox, found = threads.ThreadInbox(1, None), []  # type: threads.ThreadInbox, List[object]
+        inbox._came = came = Forgetful()
+        with mock.patch.object(threads, "TURN", 0.05):
+            waiting = threading.Thread(target=lambda: found.append(inbox.take_in_thread(None)), daemon=True)
+            waiting.start()
+            self.assertTrue(came.is_asked.wait(LIMIT))
+            inbox.end()
+            waiting.join(LIMIT)
+        self.assertEqual(found, [None])
+
+
+class Forgetful(queue.SimpleQueue[Any]):
+    """A queue out of which another thread takes all."""
+
+    def __init__(self) -> None:
+        self.is_asked = threading.Event()
+
+    def get(self, block: bool = True, timeout: Optional[float] = None) -> Any:
+        self.is_asked.set()
+        return super().get(block, timeout)
+
+    def put(self, item: object, block: bool = True, timeout: Optional[float] = None) -> None:
+        pass
 
 
 class Forks(unittest.TestCase):

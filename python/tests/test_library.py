@@ -15,8 +15,7 @@ import timeit
 import unittest
 from typing import Any, Callable, Dict, List, Optional
 
-from yarrowdoor import address, handle, layout, library
-from yarrowdoor import client as sans_io
+from yarrowdoor import address, client as sans_io, handle, layout, library
 from yarrowdoor.errors import Busy, LibraryError, Refused
 
 from .replay import replay

@@ -15,7 +15,7 @@ from typing import Any, List, Optional, Tuple, cast
 from yarrowdoor import Clock, Ended, TurnClient
 from yarrowdoor.link import StreamLink
 
-from . import coturn as coturn_server
+from . import coturn as coturn_server, leaps
 from .network import SECOND, Endpoint, StreamEndpoint
 from .server import Server
 
@@ -65,28 +65,38 @@ class Checks(unittest.IsolatedAsyncioTestCase):
             with self.assertRaisesRegex(Ended, why):
                 await asyncio.wait_for(relay.receive(), 30)
 
-    async def test_a_server_that_answers_no_binding_and_sends_data(self) -> None:
-        endpoint = await self.serve()
-        endpoint.server.answers_bindings = False
-        async with TurnClient(endpoint.uri, "user", "pass", probe=15, clock=Clock(rate=20)) as relay:
-            await relay.permit(PEER[0])
-            while endpoint.server.bindings < 12:  # four checks
-                await relay.send(b"hello", PEER)
-                self.assertEqual(await asyncio.wait_for(relay.receive(), 20), (b"hello", PEER))
-                await asyncio.sleep(0.01)
-            self.assertFalse(relay.closed)
+    def test_a_server_that_answers_no_binding_and_sends_data(self) -> None:
+        """Data is a sign of life, so that nothing else is asked for."""
+        async def main() -> None:
+            endpoint = await Endpoint.start(Server())
+            server, server.answers_bindings = endpoint.server, False
+            async with TurnClient(endpoint.uri, "user", "pass", probe=15, clock=leaps.LoopClock()) as relay:
+                await relay.permit(PEER[0])
+                asked = len(server.answered)
+                while server.bindings < 12:  # four checks
+                    await relay.send(b"hello", PEER)
+                    self.assertEqual(await relay.receive(), (b"hello", PEER))
+                    await asyncio.sleep(0.5)
+                self.assertEqual((relay.closed, len(server.answered)), (False, asked))
+            endpoint.close()
 
-    async def test_a_server_that_answers_no_binding_and_is_idle(self) -> None:
+        leaps.run(main())
+
+    def test_a_server_that_answers_no_binding_and_is_idle(self) -> None:
         """It answers signed requests, so that the relay is well."""
-        endpoint = await self.serve()
-        endpoint.server.answers_bindings = False
-        async with TurnClient(endpoint.uri, "user", "pass", probe=1, clock=Clock(rate=40)) as relay:
-            while endpoint.server.bindings < 15:  # five checks
-                self.assertFalse(relay.closed)
-                await asyncio.sleep(0.01)
-            endpoint.server.is_dead = True
-            with self.assertRaisesRegex(Ended, "to 3 checks in a row$"):
-                await asyncio.wait_for(relay.receive(), 30)
+        async def main() -> None:
+            endpoint = await Endpoint.start(Server())
+            server, server.answers_bindings = endpoint.server, False
+            async with TurnClient(endpoint.uri, "user", "pass", probe=1, clock=leaps.LoopClock()) as relay:
+                while server.bindings < 15:  # five checks
+                    self.assertFalse(relay.closed)
+                    await asyncio.sleep(0.5)
+                server.is_dead = True
+                with self.assertRaisesRegex(Ended, "to 3 checks in a row$"):
+                    await relay.receive()
+            endpoint.close()
+
+        leaps.run(main())
 
     async def test_a_nat_with_another_mapping(self) -> None:
         """The first check that tells it leads to a request that only a server which knows the relayed address grants."""

@@ -1,7 +1,6 @@
 """What is read from the server's packets beside the client."""
 import struct
 import unittest
-
 from typing import Any
 
 from yarrowdoor import reasons

@@ -5,8 +5,7 @@ import unittest
 import unittest.mock
 from typing import Any, Callable, Dict, List, Optional, Tuple
 
-from yarrowdoor import Address, Backoff, Clock, Down, Ended, Lost, PermissionFailed, Refused, Relay, Times, Up
-from yarrowdoor import tries, vigil
+from yarrowdoor import Address, Backoff, Clock, Down, Ended, Lost, PermissionFailed, Refused, Relay, Times, Up, tries, vigil
 
 from .network import Endpoint, StreamEndpoint
 from .server import CHANNEL_BIND, CREATE_PERMISSION, Server, Where, attribute, parse, unxored, xored

@@ -17,8 +17,8 @@ from .coturn import make_certificate
 from .leaps import LoopClock, run
 from .network import Endpoint, StreamEndpoint
 from .server import ALLOCATE, Server, Where
-from .turn_servers import fast
 from .test_relay import PEER, Case, Restarting
+from .turn_servers import fast
 
 
 class Breaking(StreamEndpoint):

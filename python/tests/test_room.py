@@ -5,8 +5,7 @@ import unittest
 from typing import Any, Dict, List
 from unittest import mock
 
-from yarrowdoor import LibraryError, TurnClient, kept_grants, library, longest_pause
-from yarrowdoor import client as sans_io
+from yarrowdoor import LibraryError, TurnClient, client as sans_io, kept_grants, library, longest_pause
 from yarrowdoor.clock import Alarm
 from yarrowdoor.counters import Counters
 from yarrowdoor.room import Room

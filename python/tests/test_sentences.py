@@ -12,10 +12,10 @@ from yarrowdoor.command.certificate import Certificate
 from yarrowdoor.command.exchange import Exchange, Said
 from yarrowdoor.command.steps import Outcome
 
+from .coturn import free_port
 from .test_command import check, command
 from .threaded import Ipv4Server, Threaded
 from .turn_servers import other_service
-from .coturn import free_port
 
 DAY = 86_400.0
 

@@ -45,7 +45,7 @@ class InItsOwnTime(unittest.TestCase):
 
     def thirty_peers_over_a_slow_link(self, limit: int) -> Network:
         """A client after 20 minutes with a round trip of 700 ms, whose requests leave long before the first one is answered."""
-        network = self.allocated(TestServer(nonce_life=5), delay=0.35, max_stale_nonces=limit)
+        network = self.allocated(TestServer(nonce_life=5), delay=0.35, max_stale_nonces=limit, pause=5_000_000)
         for number in range(30):
             network.client.create_permission(f"10.1.0.{number}", network.now)
         network.run(1200)
@@ -79,8 +79,8 @@ class InItsOwnTime(unittest.TestCase):
         return max(left.values())
 
     def test_a_burst(self) -> None:
-        self.assertGreater(self.most_at_once(), 200)
-        self.assertEqual(self.most_at_once(timed_from_send=True), 1)
+        self.assertEqual(self.most_at_once(), 1)
+        self.assertGreater(self.most_at_once(timed_from_send=False), 200)
 
     def test_loss_and_late_and_doubled_packets(self) -> None:
         network = self.allocated(TestServer(), loss=0.1, doubled=0.1, jitter=0.2, seed=7)

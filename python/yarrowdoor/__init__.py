@@ -18,15 +18,15 @@ from . import sync
 from .address import Address
 from .backoff import Backoff
 from .client import Client, Times
+from .clock import Clock
+from .connections import RelayServer, open_connection, start_server
+from .counters import Counters
+from .credentials import Credentials, rest_credentials
 from .endpoint import RelayTransport, create_datagram_endpoint
 from .errors import (
     AllocationFailed, Busy, ChannelFailed, ConnectFailed, Ended, LibraryError, PermissionFailed, Refused, WrongCredentials,
     YarrowdoorError,
 )
-from .clock import Clock
-from .counters import Counters
-from .connections import RelayServer, open_connection, start_server
-from .credentials import Credentials, rest_credentials
 from .notices import Lost
 from .path import Check
 from .relay import Relay

@@ -78,8 +78,8 @@ class Client:
     :param pause: the least time between two requests, in nanoseconds. 0: none.
     :param keepalive: after this many nanoseconds without a packet one is sent. 0: never.
     :param refresh_ahead: how long before its expiry a permission or channel is refreshed, in nanoseconds, at least a second.
-    :param timed_from_send: whether a request waits for its response from when its first packet is taken (RFC 8489, section 6.2.1),
-        rather than from when it is made, which counts its time in the queue.
+    :param timed_from_send: whether a request waits for its response from when its first packet is taken (RFC 8489, section 6.2.1).
+        With False it does so from when it is made, also while it is queued.
     :param seed: the 32 bytes that transaction IDs are made from, which nobody else knows. None: the system's random numbers.
     :param library: the library to use, by default the one that all share.
     """
@@ -88,7 +88,7 @@ class Client:
                  transport: str = "udp", allocation: str = "udp", families: Sequence[int] = (4,),
                  algorithms: Sequence[str] = ("sha256", "sha1"), anonymous: str = "auto", times: Optional[Times] = None,
                  max_stale_nonces: int = 9, pause: int = 50_000_000, keepalive: int = 0, refresh_ahead: int = 60_000_000_000,
-                 timed_from_send: bool = False, seed: Optional[bytes] = None, library: Optional[Calls] = None) -> None:
+                 timed_from_send: bool = True, seed: Optional[bytes] = None, library: Optional[Calls] = None) -> None:
         self._way, self._relay_way = number(TRANSPORTS, transport), number(TRANSPORTS, allocation)
         self._local, self._remote = packed(of_socket(local)), packed(of_socket(remote))
         settings = packed_settings(self._local, self._remote, self._way, self._relay_way, families, algorithms, anonymous, times,

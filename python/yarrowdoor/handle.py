@@ -15,8 +15,8 @@ from typing import Callable, List, NoReturn, Optional, Protocol, Set, Tuple, Uni
 
 from .errors import Busy
 from .layout import (
-    ANSWER, Answer, BAD_PAYLOAD, BAD_TIME, fail, FOUND, LENGTHS, MAX_OVERHEAD, MAX_PACKET, NO_ADDRESS, PACKET, PEER_DATA,
-    PEER_DATA_RANGE, PEER_PLACE, READ, RECV, REFUSED, REQUEST, SEND_HEAD, SEND_TO, SMALL_BUFFER,
+    ANSWER, BAD_PAYLOAD, BAD_TIME, FOUND, LENGTHS, MAX_OVERHEAD, MAX_PACKET, NO_ADDRESS, PACKET, PEER_DATA, PEER_DATA_RANGE,
+    PEER_PLACE, READ, RECV, REFUSED, REQUEST, SEND_HEAD, SEND_TO, SMALL_BUFFER, Answer, fail,
 )
 
 __all__ = ["Buffer", "Calls", "Handle", "Head", "Receive", "Send", "Share", "memory_of"]

@@ -12,8 +12,8 @@ from typing import Callable, Iterator, Optional, Union
 from .errors import LibraryError
 from .handle import Handle, memory_of
 from .layout import (
-    ADDRESS, CHANNEL_DATA, MESSAGE, Message, MESSAGE_IS, NAME, NO_ADDRESS, PACKET, POLL, POLL_TRANSMIT, SETTINGS, TCP, UDP,
-    WAIT_UNTIL, YES,
+    ADDRESS, CHANNEL_DATA, MESSAGE, MESSAGE_IS, NAME, NO_ADDRESS, PACKET, POLL, POLL_TRANSMIT, SETTINGS, TCP, UDP, WAIT_UNTIL, YES,
+    Message,
 )
 
 __all__ = ["Library", "find", "load"]

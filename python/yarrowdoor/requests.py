@@ -13,7 +13,7 @@ from .tasks import Tasks
 
 __all__ = ["Made", "Requests", "settle"]
 
-# So many requests wait to be sent at a time: the time of each begins when it is made, and a pause lies between two of them
+# So many requests wait to be sent at a time: a pause lies between two of them, and refreshes wait behind all of them
 # (docs/REAL-SERVERS.md in the repository). How many wait for an answer is not limited.
 MAX_UNSENT = 8
 

@@ -107,7 +107,6 @@ class TurnClient:
             self._thread.start(client.live)
             self._thread.call(client.enter, self._timeout)
         except BaseException as error:
-            client.is_given_up = True
             self._leave()
             if isinstance(error, NotAnswered):
                 raise AllocationFailed(f"no answer from {self.uri} in {self._timeout} s") from None

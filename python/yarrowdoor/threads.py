@@ -15,7 +15,6 @@ from .client import Buffer
 from .counters import Counters
 from .errors import Ended
 from .inbox import Inbox, Receiver
-from .lifetime import Connecting
 from .link import DatagramLink, Link
 from .loop_thread import LoopThread, NotAnswered
 from .session import Session
@@ -110,8 +109,6 @@ class ThreadClient(TurnClient):
         self.thread = thread
         self.is_left = False
         """whether it was closed, or nobody has it any more"""
-        self.is_given_up = False
-        """whether nobody waits for its opening any more"""
         self.inbox = self._inbox = ThreadInbox(queue, receiver)
         self._tally = Tally()
         self._outgoing: Deque[bytes] = collections.deque()
@@ -134,11 +131,8 @@ class ThreadClient(TurnClient):
             await self.close()
 
     async def leave(self) -> None:
-        """Closes the client, also one that was not opened. One whose opening was cancelled gives back what it was granted."""
-        phase = self._phase
-        if isinstance(phase, Connecting) and self.is_given_up:
-            await asyncio.wait([phase.task])
-        elif self._is_not_opened():
+        """Closes the client, also one that was not opened. One that is being opened gives back what it is granted."""
+        if self._is_not_opened():
             self.inbox.end()
         else:
             await self.close()

@@ -54,11 +54,15 @@
 pub mod api;
 pub mod client;
 mod convert;
+#[expect(unsafe_code, reason = "it calls the library")]
 mod handle;
+#[expect(unsafe_code, reason = "it calls the library")]
 pub mod hints;
 mod protocol;
+#[expect(unsafe_code, reason = "it overwrites what is freed next")]
 mod secret;
 pub mod stun;
+#[allow(unsafe_code, reason = "it declares what the library exports")]
 mod sys;
 pub mod tcp;
 pub mod types;

@@ -1,4 +1,5 @@
 //! No password stays in memory that the package gives back.
+#![expect(unsafe_code, reason = "a heap that looks at what is freed")]
 
 use std::alloc::{GlobalAlloc, Layout, System};
 use std::hint::black_box;

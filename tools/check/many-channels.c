@@ -111,8 +111,8 @@ static void receive_due(struct run *run)
     yarrowdoor_answer answer;
     while (run->first < run->end && run->replies[run->first % REPLIES].due <= run->now) {
         struct reply *reply = &run->replies[run->first++ % REPLIES];
-        enum yarrowdoor_kind kind = yarrowdoor_recv(run->client, YARROWDOOR_UDP, &run->server, &run->local, reply->bytes,
-                                                    reply->len, run->now, buffer, sizeof buffer, &answer);
+        enum yarrowdoor_kind kind = yarrowdoor_recv(run->client, YARROWDOOR_UDP, &run->server, &run->local,
+                                                    reply->bytes, reply->len, run->now, buffer, sizeof buffer, &answer);
         /* a request that waited for the pause may have been sent twice, and its second reply is ignored */
         if (kind != YARROWDOOR_HANDLED && kind != YARROWDOOR_IGNORED) {
             wrong("a reply is neither handled nor ignored");
@@ -319,9 +319,10 @@ static void churn(uint32_t count, uint64_t seconds)
     }
     double cost = cost_of_a_frame(run, channel, count - 1), usual = cost_with(NUMBERS);
     uint32_t numbers = (uint32_t)(run->last_number - FIRST_NUMBER + 1);
-    printf("%u peers came and went: %u channel numbers, at most %u permissions, %zu and %zu bytes in the first and the last "
-           "hour, %.0f ns for a frame and %.0f ns with %d channels\n",
-           count, numbers, permissions, first_hour, last_hour, cost, usual, NUMBERS);
+    printf(
+        "%u peers came and went: %u channel numbers, at most %u permissions, %zu and %zu bytes in the first and the last "
+        "hour, %.0f ns for a frame and %.0f ns with %d channels\n",
+        count, numbers, permissions, first_hour, last_hour, cost, usual, NUMBERS);
     if (numbers > NUMBERS || permissions > PERMISSIONS || last_hour > first_hour || cost > 2 * usual) {
         wrong("more than ten peers at a time need");
     }

@@ -20,25 +20,30 @@ static size_t piece;
 static int interrupts, is_repeated, is_in_call;
 static const char *calls;
 
-static unsigned long number(const char *name) {
+static unsigned long number(const char *name)
+{
     const char *text = getenv(name);
     return text ? strtoul(text, NULL, 10) : 0;
 }
 
-__attribute__((constructor)) static void begin(void) {
+__attribute__((constructor)) static void begin(void)
+{
     which[MALLOC] = number("REFUSE_MALLOC"), which[READ] = number("REFUSE_READ"), which[WRITE] = number("REFUSE_WRITE");
     piece = number("REFUSE_PIECE"), interrupts = number("REFUSE_INTERRUPT") != 0, calls = getenv("REFUSE_CALLS");
     count[MALLOC] = count[READ] = count[WRITE] = 0;
 }
 
-__attribute__((destructor)) static void end(void) {
+__attribute__((destructor)) static void end(void)
+{
     char line[128];
-    int length = snprintf(line, sizeof line, "%lu %lu %lu %lu %lu %lu\n", count[MALLOC], count[READ], count[WRITE], refused, begun, unwanted);
+    int length = snprintf(line, sizeof line, "%lu %lu %lu %lu %lu %lu\n", count[MALLOC], count[READ], count[WRITE],
+                          refused, begun, unwanted);
     syscall(SYS_write, STDERR_FILENO, line, length);
 }
 
 /* Whether this call is refused: with this error. */
-static int refuses(int kind, int error) {
+static int refuses(int kind, int error)
+{
     int is_it = ++count[kind] == which[kind];
     refused += is_it;
     if (is_it)
@@ -47,7 +52,8 @@ static int refuses(int kind, int error) {
 }
 
 /* The same of a memory request, which is not counted where it is not of a call. */
-static int refuses_memory(void) {
+static int refuses_memory(void)
+{
     if (calls && !is_in_call)
         return 0;
     if (!calls || *calls != '1')
@@ -57,30 +63,45 @@ static int refuses_memory(void) {
 }
 
 /* A call begins, or it has ended. */
-static void step(void) {
+static void step(void)
+{
     is_in_call = !is_in_call;
     begun += is_in_call;
     calls += !is_in_call && *calls;
 }
 
 /* Whether this read or write is interrupted: each for the first time. */
-static int is_interrupted(void) {
+static int is_interrupted(void)
+{
     is_repeated = interrupts && !is_repeated;
     if (is_repeated)
         errno = EINTR;
     return is_repeated;
 }
 
-void *malloc(size_t size) { return refuses_memory() ? NULL : __libc_malloc(size); }
-void *calloc(size_t number, size_t size) { return refuses_memory() ? NULL : __libc_calloc(number, size); }
-void *realloc(void *old, size_t size) { return refuses_memory() ? NULL : __libc_realloc(old, size); }
-
-ssize_t read(int from, void *to, size_t size) {
-    return is_interrupted() || refuses(READ, EIO) ? -1 : syscall(SYS_read, from, to, piece && piece < size ? piece : size);
+void *malloc(size_t size)
+{
+    return refuses_memory() ? NULL : __libc_malloc(size);
+}
+void *calloc(size_t number, size_t size)
+{
+    return refuses_memory() ? NULL : __libc_calloc(number, size);
+}
+void *realloc(void *old, size_t size)
+{
+    return refuses_memory() ? NULL : __libc_realloc(old, size);
 }
 
-ssize_t write(int to, const void *from, size_t size) {
+ssize_t read(int from, void *to, size_t size)
+{
+    return is_interrupted() || refuses(READ, EIO) ? -1
+                                                  : syscall(SYS_read, from, to, piece && piece < size ? piece : size);
+}
+
+ssize_t write(int to, const void *from, size_t size)
+{
     if (calls && size == 0)
         return step(), 0;
-    return is_interrupted() || refuses(WRITE, EIO) ? -1 : syscall(SYS_write, to, from, piece && piece < size ? piece : size);
+    return is_interrupted() || refuses(WRITE, EIO) ? -1
+                                                   : syscall(SYS_write, to, from, piece && piece < size ? piece : size);
 }

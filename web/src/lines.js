@@ -74,7 +74,7 @@ function fieldsOf(texts, parsers) {
 export function parseHead(line) {
     const texts = line.split(" ");
     try {
-        return fieldsOf(texts, texts.length > 10 ? { ...HEAD, times } : HEAD);
+        return { ...fieldsOf(texts, texts.length > 10 ? { ...HEAD, times } : HEAD), timedFromSend: false };
     } catch (error) {
         throw error instanceof BadLine ? new BadLine("bad head") : error;
     }

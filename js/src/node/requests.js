@@ -15,7 +15,7 @@ import { METHOD, idText, keyOf } from "./reasons.js";
  *     took: number }} Asked
  */
 
-/** So many requests wait to be sent at a time: the time of each begins when it is made, and a pause lies between two of them. */
+/** So many requests wait to be sent at a time: a pause lies between two of them, and refreshes wait behind all of them. */
 const MOST_UNSENT = 8;
 /** So many requests are remembered, with what was answered: more than a client has permissions and channels. */
 const MOST_REMEMBERED = 16_384;

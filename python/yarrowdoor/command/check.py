@@ -20,11 +20,9 @@ from .credentials import Credentials
 from .doors import Doors, find_addresses
 from .driver import leave_all, open_exchange
 from .exchange import Exchange
-from .extras import (
-    balancer_step, blamed_on_balancer, flows_step, limit_step, nonce_step, quota_step, server_step, streams_step,
-)
-from .joining import Joining, Limits
+from .extras import balancer_step, blamed_on_balancer, flows_step, limit_step, nonce_step, quota_step, server_step, streams_step
 from .files import more_files
+from .joining import Joining, Limits
 from .matrix import matrix_steps
 from .output import Output
 from .outside import hosts_outside

@@ -12,8 +12,8 @@ from ..asked import About
 from ..driver import drive
 from ..errors import Ended, Refused
 from .exchange import Exchange
-from .outside import Outside, hosts_of_peer, is_own_host, peer_step, untried_step
 from .output import Output
+from .outside import Outside, hosts_of_peer, is_own_host, peer_step, untried_step
 from .relays import grant_step, is_judged, permission_step
 from .steps import Outcome, Step
 from .traffic import FAR, LAST_WAIT, Flight, Trip, echo_step, first_sizes, measure, payload_step, send_back

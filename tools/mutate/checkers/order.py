@@ -12,7 +12,6 @@ from .facts import walk
 from .given import carried
 from .lines import address_in, bytes_in, ip_in
 
-
 # The calls that take no permission away but by what they process.
 KEEPING = ("relayed", "permissions", "have", "send", "transmit", "event", "recv", "poll_recv")
 

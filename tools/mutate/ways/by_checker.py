@@ -14,7 +14,6 @@ from typing import Any, Dict, Generator, Iterable, Iterator, List, Optional, Tup
 
 import checkers
 from checkers.lines import runs_in
-
 from ways.edit import TOP, BadEdit, Edit, put
 from ways.rooms import files_here
 
