@@ -32,7 +32,7 @@
    their place in the bytes that the caller passed in. The library reads no clock, opens nothing and starts no thread.
    Its memory is that of malloc, and it leaves errno as malloc does.
 
-   The functions that make a call are inline. With YARROWDOOR_NO_INLINE defined they are declared alone, and those of the
+   The functions that make a call are inline. With YARROWDOOR_NO_INLINE defined they are only declared, and those of the
    library are called, as other languages do. */
 #ifndef YARROWDOOR_H
 #define YARROWDOOR_H
@@ -99,14 +99,14 @@ enum yarrowdoor_anonymous {
     YARROWDOOR_DISABLED = 2  /* never */
 };
 
-/* A buffer of so many bytes holds every packet of yarrowdoor_poll_transmit: each is shorter. */
+/* A buffer of this many bytes holds every packet of yarrowdoor_poll_transmit: each is shorter. */
 #define YARROWDOOR_MAX_PACKET YARROWDOOR_CAST(size_t, 65556)
 
 /* What the packet of yarrowdoor_send_to may have beyond its data, in bytes: its buffer needs as much more, and that of
    yarrowdoor_send_head as much. */
 #define YARROWDOOR_MAX_OVERHEAD YARROWDOOR_CAST(size_t, 64)
 
-/* The most data of yarrowdoor_send_to where the allocation relays over UDP, in bytes. */
+/* The most data of yarrowdoor_send_to if the allocation relays over UDP, in bytes. */
 #define YARROWDOOR_MAX_PAYLOAD YARROWDOOR_CAST(size_t, 65504)
 
 /* The greatest time, in nanoseconds: 146 years. */
@@ -159,7 +159,7 @@ enum yarrowdoor_kind {
     YARROWDOOR_BYTES = 19, /* len bytes in the buffer, and left more to read */
 
     /* of the calls that only look */
-    YARROWDOOR_ADDRESS = 20, /* peer is the address at this index; transport, where it is a relayed one */
+    YARROWDOOR_ADDRESS = 20, /* peer is the address at this index; transport, if it is a relayed one */
     YARROWDOOR_YES = 21,
     YARROWDOOR_NO = 22,
 
@@ -227,11 +227,11 @@ typedef struct yarrowdoor_settings {
                               timed_from_send 0 from when it is made; then doubled */
     uint64_t wait_max;     /* the longest wait between two transmissions, in nanoseconds */
     uint64_t wait_last;    /* the wait after the last transmission, in nanoseconds */
-    uint32_t wait_count;   /* how often a request is transmitted over UDP in all; once where wait_initial is at most
+    uint32_t wait_count;   /* how often a request is transmitted over UDP in all; once if wait_initial is at most
                               1 ms */
     uint32_t has_waits;    /* 0: the waits of RFC 8489, section 6.2.1, and the four above are not read */
     uint32_t transport;    /* between client and server */
-    uint32_t allocation_transport; /* between server and peers; over TCP only where transport is TCP (RFC 6062) */
+    uint32_t allocation_transport; /* between server and peers; over TCP only if transport is TCP (RFC 6062) */
     uint32_t family;               /* of the relayed address: YARROWDOOR_IPV4 or YARROWDOOR_IPV6 */
     uint32_t other_family;         /* of a second relayed address, or 0 */
     uint32_t algorithm;            /* that the client accepts. Of two it uses SHA-256, if the server offers that */
@@ -246,10 +246,10 @@ typedef struct yarrowdoor_settings {
     yarrowdoor_address remote;     /* the server's address */
     uint64_t request_cadence;      /* the pause between two requests, in nanoseconds. 0: 50 ms; YARROWDOOR_NO_PAUSE:
                                       none; yarrowdoor_settings_of sets 5 ms */
-    uint64_t keepalive;            /* after so long without a packet a Binding indication keeps the path to the
+    uint64_t keepalive;            /* after this time without a packet a Binding indication keeps the path to the
                                       server alive, in nanoseconds; less than 1 s is taken as 1 s. 0: never. For a
                                       NAT 15 s are usual */
-    uint64_t refresh_ahead; /* so long before its expiry a grant is refreshed, but not before half of its lifetime is
+    uint64_t refresh_ahead; /* how long before its expiry a grant is refreshed, but not before half of its lifetime is
                                over, in nanoseconds; less than 1 s is taken as 1 s. 0: 60 s */
     uint64_t reserved_places[2]; /* 0 */
 } yarrowdoor_settings;
@@ -298,10 +298,10 @@ typedef struct yarrowdoor_message {
     uint8_t id[12];         /* the transaction ID: that of the request, in a response */
     uint16_t channel;       /* the channel number of ChannelData, from 0x4000 to 0x7fff */
     uint16_t code;          /* of ERROR-CODE, from 300 to 699. 0: there is none, or it is malformed */
-    uint32_t reason_at;     /* where the text of ERROR-CODE begins in the bytes, not ended by a 0; 0 where there is
+    uint32_t reason_at;     /* where the text of ERROR-CODE begins in the bytes, not ended by a 0; 0 if there is
                                none */
     uint32_t reason_len;    /* bytes of that text */
-    uint32_t realm_at;      /* where the first REALM begins in the bytes; 0 where there is none */
+    uint32_t realm_at;      /* where the first REALM begins in the bytes; 0 if there is none */
     uint32_t realm_len;     /* bytes of the realm */
     yarrowdoor_address mapped;    /* XOR-MAPPED-ADDRESS: the address at which the server sees the client. Family 0:
                                      there is none, or it is malformed */
@@ -340,15 +340,15 @@ uint32_t yarrowdoor_call(yarrowdoor *client, const yarrowdoor_request *request, 
    is written as by yarrowdoor_call. It takes no memory. */
 uint32_t yarrowdoor_look(const yarrowdoor *client, const yarrowdoor_request *request, yarrowdoor_answer *answer);
 
-/* Frees a client, or does nothing where it is NULL. It sends nothing: yarrowdoor_delete gives the allocations back to the
+/* Frees a client, or does nothing if it is NULL. It sends nothing: yarrowdoor_delete gives the allocations back to the
    server before. */
 void yarrowdoor_free(yarrowdoor *client);
 
 /* Reads the first frame of bytes that came from the server over `transport`: a datagram, or what a stream brought. The
    client passes over an error response that is not signed, as the 401 to a wrong password, and no event has a code: this
-   says which it was. It verifies nothing, so what it says is a hint, and nothing that is acted on alone. It writes all of
+   says which it was. It verifies nothing, so what it says is a hint, and nothing to act on by itself. It writes all of
    *message, of which the kind is returned: YARROWDOOR_MESSAGE, YARROWDOOR_CHANNEL_DATA, YARROWDOOR_NO_FRAME,
-   YARROWDOOR_BAD_CALL where there is no such transport, or over TCP YARROWDOOR_NOTHING where more bytes are needed. It
+   YARROWDOOR_BAD_CALL if there is no such transport, or over TCP YARROWDOOR_NOTHING if more bytes are needed. It
    takes no memory.
 
        static yarrowdoor_message said;   // initialised, once
@@ -371,24 +371,24 @@ uint32_t yarrowdoor_read_message(uint32_t transport, const uint8_t *bytes, size_
    8489, sections 14.5 and 14.6), are passed over. It verifies nothing, as yarrowdoor_read_message, and takes no memory. */
 uint32_t yarrowdoor_read_attribute(const uint8_t *bytes, size_t len, uint16_t type, size_t *start, size_t *value_len);
 
-/* How many grants are kept beside this load, by a client with these two settings (0 is their default): none of so many is lost
-   where the server answers, and one more may be. 0: there is room for none. UINT64_MAX: there is no pause, and the caller is
+/* How many grants are kept beside this load, by a client with these two settings (0 is their default): none of that many is lost
+   if the server answers, and one more may be. 0: there is room for none. UINT64_MAX: there is no pause, and the caller is
    never late. A permission lasts 300 s and is refreshed after half of that at the earliest, so a refresh_ahead over 150 s counts
-   as 150 s; where the server grants an allocation for under 300 s, pass half of that. It needs no client, and takes no memory.
+   as 150 s; if the server grants an allocation for under 300 s, pass half of that. It needs no client, and takes no memory.
 
        static const yarrowdoor_load load = {2000000, 450000000, 1, 0};   // 2 ms late, answers within 450 ms, one packet queued
        yarrowdoor_kept_grants(&load, settings.request_cadence, settings.refresh_ahead) */
 uint64_t yarrowdoor_kept_grants(const yarrowdoor_load *load, uint64_t request_cadence, uint64_t refresh_ahead);
 
-/* The longest request_cadence of the settings at which so many grants are kept beside this load, of which each is refreshed so
-   long ahead (0 is the default): YARROWDOOR_NO_PAUSE where it takes that, and 0 where they are too many even so. A count of 0 is
+/* The longest request_cadence of the settings at which count grants are kept beside this load, of which each is refreshed this
+   long ahead (0 is the default): YARROWDOOR_NO_PAUSE if it takes that, and 0 if they are too many even so. A count of 0 is
    taken as 1. It needs no client, and takes no memory. */
 uint64_t yarrowdoor_longest_cadence(const yarrowdoor_load *load, uint64_t count, uint64_t refresh_ahead);
 
 /* The version of the library that is linked or loaded, as YARROWDOOR_VERSION is that of this header. */
 uint32_t yarrowdoor_version(void);
 
-/* 0. It is there so that a program is linked to a library of this layout alone. */
+/* 0. It is there so that a program is linked to a library of this layout only. */
 extern const uint32_t yarrowdoor_abi_0;
 
 /* 0. Each minor version has such a symbol, and keeps those of the versions before it, so that a program is not linked to, nor
@@ -493,7 +493,7 @@ YARROWDOOR_AT(load, extras, 20, 4);
 
 /* ---- calls
 
-   Each may answer YARROWDOOR_BAD_TIME where it takes a time, YARROWDOOR_BAD_CALL where it takes a transport or an
+   Each may answer YARROWDOOR_BAD_TIME if it takes a time, YARROWDOOR_BAD_CALL if it takes a transport or an
    address, and YARROWDOOR_OUT_OF_MEMORY unless it says that it takes no memory. That is not repeated below. */
 
 /* The kinds of requests. */
@@ -542,7 +542,7 @@ YARROWDOOR_INLINE const char *yarrowdoor_error_name(uint32_t error);
 YARROWDOOR_INLINE yarrowdoor_settings yarrowdoor_settings_of(uint32_t transport, const yarrowdoor_address *local,
                                                              const yarrowdoor_address *remote);
 
-/* What is to be done next. YARROWDOOR_WAIT_UNTIL: nothing before answer->time, when to poll again. Where something is due
+/* What is to be done next. YARROWDOOR_WAIT_UNTIL: nothing before answer->time, when to poll again. If something is due
    already, a packet or an event, that time is `now` or before it: compare the two before you subtract one from the other.
    Any other call may make it earlier, so poll after it. Data of peers, in and out, makes nothing due: after
    yarrowdoor_send_to, yarrowdoor_send_head, yarrowdoor_read and a yarrowdoor_recv that answers YARROWDOOR_PEER_DATA_RANGE
@@ -552,7 +552,7 @@ YARROWDOOR_INLINE yarrowdoor_settings yarrowdoor_settings_of(uint32_t transport,
    YARROWDOOR_TCP_CLOSE: close the connection from answer->from to answer->to; a packet that yarrowdoor_poll_transmit still
    gives for it, as its ConnectionBind, is dropped. YARROWDOOR_CLOSED: the client has
    ended; poll the events that are left, and close its data connections. By default that is 39.5 s after the start
-   where nobody answers, with an event for each family, and 39.5 s after the challenge where the user name or the
+   if nothing is answered, with an event for each family, and 39.5 s after the challenge if the user name or the
    password is wrong, with none. */
 YARROWDOOR_INLINE enum yarrowdoor_kind yarrowdoor_poll(yarrowdoor *client, uint64_t now, yarrowdoor_answer *answer);
 
@@ -571,7 +571,7 @@ YARROWDOOR_INLINE enum yarrowdoor_kind yarrowdoor_poll_transmit(yarrowdoor *clie
 YARROWDOOR_INLINE enum yarrowdoor_kind yarrowdoor_poll_event(yarrowdoor *client, yarrowdoor_answer *answer);
 
 /* Passes in bytes that were received over `transport`, from the server at `from`, by the client's socket at `to`:
-   one datagram, or what one read of a stream gave, or nothing where the stream has ended. YARROWDOOR_HANDLED,
+   one datagram, or what one read of a stream gave, or nothing if the stream has ended. YARROWDOOR_HANDLED,
    YARROWDOOR_IGNORED, YARROWDOOR_PEER_ICMP. YARROWDOOR_PEER_DATA_RANGE: data of answer->peer, the answer->len
    bytes at bytes + answer->start. YARROWDOOR_PEER_DATA: data of answer->peer that came in pieces or behind another
    message, answer->len bytes in the buffer and answer->left more, for yarrowdoor_read. YARROWDOOR_UNREAD_BYTES:
@@ -589,7 +589,7 @@ YARROWDOOR_INLINE enum yarrowdoor_kind yarrowdoor_recv(yarrowdoor *client, uint3
 /* The next data of peers in the streams that were passed in: call it after yarrowdoor_recv over TCP, until it
    answers YARROWDOOR_NOTHING. YARROWDOOR_PEER_DATA: answer->len bytes in the buffer and answer->left more, for
    yarrowdoor_read. YARROWDOOR_UNREAD_BYTES: read the rest of an earlier answer first. YARROWDOOR_OUT_OF_MEMORY: as
-   for yarrowdoor_recv. Where no stream holds anything it takes no memory. */
+   for yarrowdoor_recv. If no stream holds anything it takes no memory. */
 YARROWDOOR_INLINE enum yarrowdoor_kind yarrowdoor_poll_recv(yarrowdoor *client, uint64_t now, uint8_t *buffer,
                                                             size_t buffer_len, yarrowdoor_answer *answer);
 
@@ -635,10 +635,10 @@ YARROWDOOR_INLINE enum yarrowdoor_kind yarrowdoor_have_permission(const yarrowdo
                                                                   yarrowdoor_answer *answer);
 
 /* Says whether the permission for the IP address of `peer`, whatever its port, is kept, as each is at first: refreshed until
-   the allocation ends. With is_kept 0 it is let go: used until it expires, with the event
+   the allocation ends. With is_kept 0 it is released: used until it expires, with the event
    YARROWDOOR_PERMISSION_CREATE_FAILED, which is then the expected end. With 1 it is kept again. YARROWDOOR_DONE.
-   YARROWDOOR_REFUSED: YARROWDOOR_ERROR_NOT_GRANTED. YARROWDOOR_BAD_CALL also where is_kept is another number. A channel to
-   a peer and the permission for it are two grants: let both go, or the channel alone. It takes no memory. */
+   YARROWDOOR_REFUSED: YARROWDOOR_ERROR_NOT_GRANTED. YARROWDOOR_BAD_CALL also if is_kept is another number. A channel to
+   a peer and the permission for it are two grants: release both, or only the channel. It takes no memory. */
 YARROWDOOR_INLINE enum yarrowdoor_kind yarrowdoor_set_permission_kept(yarrowdoor *client, uint32_t transport,
                                                                       const yarrowdoor_address *peer, uint32_t is_kept,
                                                                       yarrowdoor_answer *answer);
@@ -647,7 +647,7 @@ YARROWDOOR_INLINE enum yarrowdoor_kind yarrowdoor_set_permission_kept(yarrowdoor
    header, and not 36 or 48. YARROWDOOR_DONE: an event YARROWDOOR_CHANNEL_CREATED or
    YARROWDOOR_CHANNEL_CREATE_FAILED reports the outcome, unless the client or its allocation ends before, and
    another that of a permission that it requested. YARROWDOOR_REFUSED: YARROWDOOR_ERROR_NO_ALLOCATION;
-   YARROWDOOR_ERROR_ALREADY_EXISTS, also where all 4,096 numbers are taken; YARROWDOOR_ERROR_EXPIRED, up to
+   YARROWDOOR_ERROR_ALREADY_EXISTS, also if all 4,096 numbers are taken; YARROWDOOR_ERROR_EXPIRED, up to
    answer->time. */
 YARROWDOOR_INLINE enum yarrowdoor_kind yarrowdoor_bind_channel(yarrowdoor *client, uint32_t transport,
                                                                const yarrowdoor_address *peer, uint64_t now,
@@ -668,10 +668,10 @@ YARROWDOOR_INLINE enum yarrowdoor_kind yarrowdoor_tcp_connect(yarrowdoor *client
                                                               uint64_t now, yarrowdoor_answer *answer);
 
 /* Passes in the data connection that YARROWDOOR_ALLOCATE_TCP_SOCKET asked for: its id, transport, from, to and
-   peer, and `local`, the address of the new socket, or null where no connection could be opened. YARROWDOOR_DONE:
-   an event reports YARROWDOOR_TCP_CONNECTED or YARROWDOOR_TCP_CONNECT_FAILED; there is none where `local` is null,
-   nor where the connection ends before it is bound: then YARROWDOOR_TCP_CLOSE alone tells it. YARROWDOOR_REFUSED:
-   YARROWDOOR_ERROR_NO_ALLOCATION where no such connection is offered, or YARROWDOOR_ERROR_ALREADY_EXISTS where
+   peer, and `local`, the address of the new socket, or null if no connection could be opened. YARROWDOOR_DONE:
+   an event reports YARROWDOOR_TCP_CONNECTED or YARROWDOOR_TCP_CONNECT_FAILED; there is none if `local` is null,
+   nor if the connection ends before it is bound: then only YARROWDOOR_TCP_CLOSE reports it. YARROWDOOR_REFUSED:
+   YARROWDOOR_ERROR_NO_ALLOCATION if no such connection is offered, or YARROWDOOR_ERROR_ALREADY_EXISTS if
    another has this local address. */
 YARROWDOOR_INLINE enum yarrowdoor_kind yarrowdoor_allocated_tcp_socket(
     yarrowdoor *client, uint32_t id, uint32_t transport, const yarrowdoor_address *from, const yarrowdoor_address *to,
@@ -685,17 +685,18 @@ YARROWDOOR_INLINE enum yarrowdoor_kind yarrowdoor_tcp_closed(yarrowdoor *client,
                                                              yarrowdoor_answer *answer);
 
 /* Requests that the server delete the allocations (RFC 8656, section 8). YARROWDOOR_DONE: poll and transmit until
-   YARROWDOOR_CLOSED, for as long as you care to wait: where the server answers with an error other than 437 it
-   does not come, and with timed_from_send not before the REFRESH was taken by yarrowdoor_poll_transmit. It leaves behind each
-   request that was made before it, one in each pause: a caller that closes the socket at once leaves the relay to the server
-   until its lifetime is over, and so calls yarrowdoor_abandon instead. YARROWDOOR_REFUSED: YARROWDOOR_ERROR_NO_ALLOCATION. To give up before there is one, free the
+   YARROWDOOR_CLOSED, for as long as you care to wait: if the server answers with an error other than 437 it
+   does not come, and with timed_from_send not before the REFRESH was taken by yarrowdoor_poll_transmit. It leaves behind
+   each request that was made before it, one in each pause: a caller that closes the socket at once leaves the relay to the
+   server until its lifetime is over, and so calls yarrowdoor_abandon instead. YARROWDOOR_REFUSED:
+   YARROWDOOR_ERROR_NO_ALLOCATION. To give up before there is one, free the
    client: what the server may still grant ends there by its lifetime. */
 YARROWDOOR_INLINE enum yarrowdoor_kind yarrowdoor_delete(yarrowdoor *client, uint64_t now, yarrowdoor_answer *answer);
 
 /* Gives the client up, for a caller that closes its socket at once, as a destructor does. YARROWDOOR_PACKET: send the answer->len
    bytes in the buffer, and the answer->left ones behind them that yarrowdoor_read gives, as those of yarrowdoor_poll_transmit.
    It is the REFRESH that deletes the allocations (RFC 8656, section 8.1), which here waits neither for the pause nor for what is
-   queued. It is sent once: where it is lost, or the server asks for another nonce, the relay ends by its lifetime.
+   queued. It is sent once: if it is lost, or the server asks for another nonce, the relay ends by its lifetime.
    YARROWDOOR_NOTHING: the server has granted no allocation, or the client has ended. After both the client has ended: it holds
    no grant and sends nothing more; events that were queued can still be polled. YARROWDOOR_UNREAD_BYTES: read the rest of an
    earlier answer first. YARROWDOOR_OUT_OF_MEMORY, as each refusal, leaves the client as it was, and only one with an allocation
@@ -1144,7 +1145,7 @@ static inline yarrowdoor_address yarrowdoor_of_sockaddr(const struct sockaddr *f
     return address;
 }
 
-/* Writes the address as a sockaddr_in or a sockaddr_in6, and returns its length, or 0 where it is no address. */
+/* Writes the address as a sockaddr_in or a sockaddr_in6, and returns its length, or 0 if it is no address. */
 static inline socklen_t yarrowdoor_to_sockaddr(const yarrowdoor_address *address, struct sockaddr_storage *to)
 {
     uint8_t port[2];

@@ -1,4 +1,4 @@
-"""What was measured, as the tables of docs/PERFORMANCE.md."""
+"""What was measured, as tables: docs/PERFORMANCE.md has the least times of the second one."""
 import statistics
 from typing import Dict, Iterable, List, Optional, Tuple
 

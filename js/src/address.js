@@ -3,7 +3,7 @@ import { ADDRESS, SIZE } from "./layout.js";
 
 /**
  * An IP address with its port, as sockets of Node have it. IPv6 addresses are written as RFC 5952 says; `flow` and `scope` are
- * there where they are not 0.
+ * there if they are not 0.
  * @typedef {{ readonly address: string, readonly port: number, readonly family: "IPv4" | "IPv6", readonly flow?: number,
  *     readonly scope?: number }} Address
  */
@@ -26,7 +26,7 @@ const KEPT = 4_096;
 const parsed = new Map();
 
 /**
- * An IP address, or undefined where the text is none.
+ * An IP address, or undefined if the text is none.
  * @param {string} text
  * @returns {ParsedIp | undefined}
  */
@@ -167,7 +167,7 @@ function sixAt(view, place) {
 }
 
 /**
- * The address at a place, or undefined where there is none.
+ * The address at a place, or undefined if there is none.
  * @param {DataView} view
  * @param {number} place
  * @returns {Address}
@@ -226,7 +226,7 @@ export function isAddressAt(view, place) {
 }
 
 /**
- * Writes an address. TypeError where it is none, RangeError where its port is none.
+ * Writes an address. TypeError if it is none, RangeError if its port is none.
  * @param {Uint8Array} memory
  * @param {DataView} view
  * @param {number} place

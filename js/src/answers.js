@@ -41,7 +41,7 @@ import { timeAt } from "./time.js";
  * @typedef {{ kind: "handled" }} Handled
  */
 /**
- * The bytes were not for this client, or nobody had to have signed them.
+ * The bytes were not for this client, or nothing shows that the server sent them.
  * @typedef {{ kind: "ignored" }} Ignored
  */
 /**

@@ -28,7 +28,7 @@ export class ModuleBuffer {
     }
 
     /**
-     * Use `client.buffer(length)` or `library.buffer(length)`. RangeError where the length is none, OutOfMemory.
+     * Use `client.buffer(length)` or `library.buffer(length)`. RangeError if the length is none, OutOfMemory.
      * @param {Module} module
      * @param {number} length
      */
@@ -67,7 +67,7 @@ export class ModuleBuffer {
 }
 
 /**
- * The place of a part of a buffer. TypeError where it is no buffer of this module, RangeError where it has no such part.
+ * The place of a part of a buffer. TypeError if it is no buffer of this module, RangeError if it has no such part.
  * @param {ModuleBuffer} buffer
  * @param {Module} module
  * @param {number} offset
@@ -100,7 +100,7 @@ function noPart(buffer, offset, length, name) {
 }
 
 /**
- * RangeError where a packet would be written over the data that it carries: the module is promised that they lie apart.
+ * RangeError if a packet would be written over the data that it carries: the module is promised that they lie apart.
  * @param {number} place
  * @param {number} length
  * @param {number} into

@@ -14,7 +14,7 @@ export function taken(bytes, into) {
 }
 
 /**
- * TypeError where it is no Uint8Array, or lies in memory that is gone, as that of the module before it has grown.
+ * TypeError if it is no Uint8Array, or lies in memory that is gone, as that of the module before it has grown.
  * @param {unknown} data
  */
 export function checkBytes(data) {

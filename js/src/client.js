@@ -31,7 +31,7 @@ const IGNORED = Object.freeze({ kind: "ignored" });
  *         const answer = client.recv(data, now());          // { kind: "peer-data", data, peer }, or another
  *     }
  *
- * Errors: TypeError and RangeError where the arguments are no call, `Refused` where the client refuses one, `OutOfMemory`, `Ended`
+ * Errors: TypeError and RangeError if the arguments are no call, `Refused` if the client refuses one, `OutOfMemory`, `Ended`
  * after `close`, and `LibraryError` after a fault of the module. A client that nothing refers to any more is freed.
  */
 export class Client {
@@ -148,7 +148,7 @@ export class Client {
     // Data
 
     /**
-     * Passes in one datagram, or what one read of a stream gave, or no bytes where the stream has ended. `remote` and `local` are
+     * Passes in one datagram, or what one read of a stream gave, or no bytes if the stream has ended. `remote` and `local` are
      * the addresses of the socket that had it, unless it is the one to the server. Over TCP call `pollRecv` afterwards, until it
      * gives nothing. Data of a peer is a part of the bytes that were passed in, where it lies in them as a whole.
      *
@@ -228,7 +228,7 @@ export class Client {
     /**
      * The packet that carries data to `peer`, which needs a permission, and over TCP a data connection too. It is put into `into`,
      * which has 64 bytes more than the data, or into bytes of its own. `Refused`: `no-permission`, `no-socket`. RangeError for over
-     * 65,504 bytes where the allocation is over UDP.
+     * 65,504 bytes if the allocation is over UDP.
      * @param {AddressLike} peer
      * @param {Uint8Array} data
      * @param {Time} now
@@ -289,7 +289,7 @@ export class Client {
 
     /**
      * Requests a channel, and with it a permission (RFC 8656, section 12). An event reports the outcome. `Refused`: `no-allocation`;
-     * `already-exists`, also where all 4,096 numbers are taken; `expired`, up to `until`.
+     * `already-exists`, also if all 4,096 numbers are taken; `expired`, up to `until`.
      * @param {AddressLike} peer
      * @param {Time} now
      * @param {{ transport?: Transport }} how
@@ -300,7 +300,7 @@ export class Client {
 
     /**
      * Says whether the permission of an IP address is refreshed, as each is at first. One that is not ends by itself, with its event.
-     * `Refused` (`not-granted`) where there is none.
+     * `Refused` (`not-granted`) if there is none.
      * @param {string} ip
      * @param {boolean} isKept
      * @param {{ transport?: Transport }} how
@@ -311,7 +311,7 @@ export class Client {
 
     /**
      * Says whether the channel of a peer is refreshed, as each is at first. One that is not ends by itself, with its event; its
-     * permission is another grant. `Refused` (`not-granted`) where there is none.
+     * permission is another grant. `Refused` (`not-granted`) if there is none.
      * @param {AddressLike} peer
      * @param {boolean} isKept
      * @param {{ transport?: Transport }} how
@@ -331,9 +331,9 @@ export class Client {
     }
 
     /**
-     * Passes in the connection that `poll` asked for, by its local address, or undefined where there is none. An event says that it
-     * is bound, or that it failed; there is none without an address, nor where the connection ends before. `Refused`: `no-allocation`
-     * where no such connection is offered, `already-exists` where another has this address.
+     * Passes in the connection that `poll` asked for, by its local address, or undefined if there is none. An event says that it
+     * is bound, or that it failed; there is none without an address, nor if the connection ends before. `Refused`: `no-allocation`
+     * if no such connection is offered, `already-exists` if another has this address.
      * @param {{ id: number, transport: Transport, local: AddressLike, remote: AddressLike, peer: AddressLike }} wanted
      * @param {AddressLike | undefined} local
      * @param {Time} now

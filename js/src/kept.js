@@ -15,10 +15,10 @@ import { putTime, timeAt } from "./time.js";
  */
 
 /**
- * How many grants are kept beside a load: none of so many is lost where the server answers, and one more may be. 0: there is room for
+ * How many grants are kept beside a load: none of that many is lost if the server answers, and one more may be. 0: there is room for
  * none. Infinity: there is no pause, and the caller is never late. A permission lasts 300 s and is refreshed after half of that at the
  * earliest, so that a `refreshAhead` over 150 s counts as 150 s; where the server grants an allocation for under 300 s, pass half of
- * that. TypeError and RangeError where a part of the load is none.
+ * that. TypeError and RangeError if a part of the load is none.
  * @param {import("./library.js").Library} library
  * @param {Load} load
  */
@@ -31,8 +31,8 @@ export function keptGrants(library, load) {
 }
 
 /**
- * The longest `pause` with which so many grants are kept beside a load, in milliseconds: 0 where they are with none alone, and
- * undefined where they are too many even so. TypeError and RangeError where a part of the load is none, or the count.
+ * The longest `pause` with which `count` grants are kept beside a load, in milliseconds: 0 if only without a pause, and
+ * undefined if they are too many even so. TypeError and RangeError if a part of the load is none, or the count.
  * @param {import("./library.js").Library} library
  * @param {number} count
  * @param {Load} load

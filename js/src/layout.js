@@ -60,7 +60,7 @@ export const MESSAGE = Object.freeze({
 /** Places in what takes time beside refreshes. */
 export const LOAD = Object.freeze({ LATE: 0, DELAY: 8, SLOTS: 16, EXTRAS: 20 });
 
-/** A buffer of so many bytes holds each packet that is not data. */
+/** A buffer of this many bytes holds each packet that is not data. */
 export const MAX_PACKET = 65_556;
 /** What a packet may have beyond its data, in bytes. */
 export const MAX_OVERHEAD = 64;

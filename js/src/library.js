@@ -15,7 +15,7 @@ let inside;
 /**
  * The compiled module with its memory. Nothing of it can be shared between threads: each worker loads its own.
  *
- * Where an engine stops a call, as when its stack is used up, the memory may be left halfway: then all clients of the library are
+ * If an engine stops a call, as when its stack is used up, the memory may be left halfway: then all clients of the library are
  * lost, and each later call is a LibraryError.
  */
 export class Library {
@@ -28,7 +28,7 @@ export class Library {
     /**
      * Compiles the module, by default that of the package. `source` is its bytes, a `WebAssembly.Module`, a `Response`, a URL, or the
      * text of one; in Node also the path of a file. Its memory has at most `memoryLimit` bytes (over 1 MB): a call for more fails with
-     * OutOfMemory. LibraryError where it is none.
+     * OutOfMemory. LibraryError if it is none.
      * @param {{ source?: import("./load.js").Source, memoryLimit?: number }} options
      * @returns {Promise<Library>}
      */
@@ -76,7 +76,7 @@ export class Library {
     }
 
     /**
-     * A buffer of so many bytes in the memory of the module. It is yours until its `free`. RangeError, OutOfMemory.
+     * A buffer of this many bytes in the memory of the module. It is yours until its `free`. RangeError, OutOfMemory.
      * @param {number} length
      */
     buffer(length) {
@@ -85,7 +85,7 @@ export class Library {
 }
 
 /**
- * The inside of a library, which no user has. TypeError where it is none.
+ * The inside of a library, which no user has. TypeError if it is none.
  * @param {Library} library
  */
 export function moduleOf(library) {

@@ -27,7 +27,7 @@ const CLASSES = Object.freeze(["request", "indication", "success", "error"]);
 /**
  * Reads the first frame of bytes that came over `transport`: a datagram, or what a stream brought. `len` is its bytes, over TCP
  * with its padding. Undefined where more bytes are needed, over TCP. Nothing of it was verified: anyone who can send to the socket
- * may have sent it. So it is a hint, and nothing to act on alone.
+ * may have sent it. So it is a hint, and nothing to act on by itself.
  * @param {import("./library.js").Library} library
  * @param {Uint8Array} data
  * @param {"udp" | "tcp"} [transport]

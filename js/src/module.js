@@ -26,7 +26,7 @@ import { textOf } from "./load.js";
 const ROOM = MAX_PAYLOAD + 2 * MAX_OVERHEAD;
 
 /**
- * The compiled module with its memory. Where an engine stops a call, as when its stack is used up, the memory may be left halfway:
+ * The compiled module with its memory. If an engine stops a call, as when its stack is used up, the memory may be left halfway:
  * then all clients are lost, and each later call is a LibraryError.
  */
 export class Module {
@@ -36,7 +36,7 @@ export class Module {
     #fault;
     /** @type {FinalizationRegistry<Held>} */
     #registry;
-    /** The memory as it is now. Where it grows it is another one. */
+    /** The memory as it is now. When it grows it is another one. */
     bytes = new Uint8Array();
     /** The same, for numbers. */
     view = new DataView(new ArrayBuffer(0));
@@ -125,7 +125,7 @@ export class Module {
     }
 
     /**
-     * A buffer of so many bytes in the memory of the module. It is yours until its `free`. RangeError, OutOfMemory.
+     * A buffer of this many bytes in the memory of the module. It is yours until its `free`. RangeError, OutOfMemory.
      * @param {number} length
      */
     buffer(length) {
@@ -158,7 +158,7 @@ export class Module {
     }
 
     /**
-     * A buffer of so many bytes or more that come out, which all calls share: to be read before the next call.
+     * A buffer of this many bytes or more that come out, which all calls share: to be read before the next call.
      * @param {number} length
      */
     outputOf(length) {

@@ -5,33 +5,8 @@ import { SEED_LEN, SETTINGS, SIZE } from "./layout.js";
 import { randomBytes } from "./random.js";
 import { putTime } from "./time.js";
 
-/**
- * How long a request waits for its answer. Over UDP it is transmitted `count` times: the second time `initial` after it was made,
- * each further wait being twice the one before, but at most `longest`; `last` after the last time it fails. Over TCP it is
- * transmitted once, and fails as late. By default that is after 39.5 s (RFC 8489, section 6.2.1).
- * @typedef {{ readonly initial?: import("./time.js").Time, readonly longest?: import("./time.js").Time,
- *     readonly last?: import("./time.js").Time, readonly count?: number }} Times
- */
-
-/**
- * `local` and `remote` are the addresses of the socket and of the server. `username` and `credential` are bytes, or text that is
- * encoded as UTF-8 (typed text has to be prepared before; RFC 8489, section 14.3). `transport` is that to the server, and
- * `allocation` that between server and peers: `"tcp"` (RFC 6062) needs a `transport` of `"tcp"`. `families` are those of the
- * relayed addresses: 4, 6 or both. `algorithms` are those that may sign requests (RFC 8489, sections 14.5 and 14.6): of both,
- * SHA-256 does if the server offers it. `anonymous` hides the user name (section 14.4): `"required"` always, `"disabled"` never,
- * and `"auto"` never so far. The client answers `maxStaleNonces` challenges in a row, 1 to 65,535, and the next one ends it. Between
- * two requests lies a `pause`; with a `keepalive` above 0 the client sends something when it has sent nothing for so long; a grant
- * is refreshed `refreshAhead` before it expires. A request waits for its response from when its first packet is taken (RFC 8489,
- * section 6.2.1); if `timedFromSend` is false, it does so from when it is made, also while it is queued. Transaction IDs are drawn
- * from `seed`, 32 bytes that nobody else knows: random ones by default.
- * @typedef {{ readonly local: import("./address.js").AddressLike, readonly remote: import("./address.js").AddressLike,
- *     readonly username: string | Uint8Array, readonly credential: string | Uint8Array, readonly transport?: "udp" | "tcp",
- *     readonly allocation?: "udp" | "tcp", readonly families?: readonly (4 | 6)[],
- *     readonly algorithms?: readonly ("sha1" | "sha256")[], readonly anonymous?: "auto" | "required" | "disabled",
- *     readonly times?: Times, readonly maxStaleNonces?: number, readonly pause?: import("./time.js").Time,
- *     readonly keepalive?: import("./time.js").Time, readonly refreshAhead?: import("./time.js").Time,
- *     readonly timedFromSend?: boolean, readonly seed?: Uint8Array }} Settings
- */
+/** @typedef {import("./client-settings.js").Times} Times */
+/** @typedef {import("./client-settings.js").Settings} Settings */
 
 const ALGORITHMS = Object.freeze({ sha1: 1, sha256: 2 }), ANONYMOUS = Object.freeze({ auto: 0, required: 1, disabled: 2 });
 const FAMILIES = Object.freeze({ 4: 4, 6: 6 }), LONGEST = 2n ** 64n - 1n;
@@ -99,7 +74,7 @@ function seedOf(given) {
 }
 
 /**
- * Writes the settings, and gives the bytes beside them. TypeError and RangeError where one is none.
+ * Writes the settings, and gives the bytes beside them. TypeError and RangeError if one is none.
  * @param {import("./module.js").Module} module
  * @param {Settings} given
  */

@@ -17,7 +17,7 @@ const NANOSECONDS = 1e6, HIGH = 2 ** 32, EXACT = 2 ** 53, MOST = 2 ** 62;
 const LATEST = 2n ** 62n;
 
 /**
- * Writes a time, or a length of time up to `most`, as a number of 64 bits. RangeError where it is none.
+ * Writes a time, or a length of time up to `most`, as a number of 64 bits. RangeError if it is none.
  * @param {DataView} view
  * @param {number} place
  * @param {Time} time
@@ -45,7 +45,7 @@ export function putTime(view, place, time, name = "now", most = LATEST) {
 
 /**
  * A time as the module takes it with a call: nanoseconds, or where a number cannot have them less than 0, and they are written to a
- * place as a number of 64 bits. RangeError where it is no time.
+ * place as a number of 64 bits. RangeError if it is no time.
  * @param {DataView} view
  * @param {number} place
  * @param {Time} time

@@ -68,8 +68,8 @@ def with_nothing(room: str, port: int, tls: int) -> Iterator[None]:
 CHECK = "check turn:127.0.0.1:{port} --user user"
 SECRET = {"YARROWDOOR_SECRET": "secret"}
 RUNS: Dict[str, Run] = {
-    "all is well": Run(CHECK, with_coturn(), 0),
     "a wrong password": Run(CHECK, with_coturn(), 1, {"YARROWDOOR_PASSWORD": "wrong"}),
+    "all is well": Run(CHECK, with_coturn(), 0),
     "a private address": Run(CHECK, with_coturn("--external-ip", "10.1.2.3"), 1),
     "no peers on loopback": Run(CHECK, with_coturn(joins_loopback=False), 1),
     "a certificate for another name": Run("check turns:localhost:{tls} --user user --ca {room}/ca.pem",

@@ -53,11 +53,11 @@ def _packed(address: AddressLike) -> bytes:
 
 
 packed: Callable[[AddressLike], bytes] = Kept(_packed).__getitem__
-"""An address as the library has it. `ValueError` where it is none."""
+"""An address as the library has it. `ValueError` if it is none."""
 
 
 def packed_ip(ip: str) -> bytes:
-    """An IP address as the library has it, with port 0. `ValueError` where it is none."""
+    """An IP address as the library has it, with port 0. `ValueError` if it is none."""
     try:
         return packed((ip, 0))
     except (ValueError, TypeError):
@@ -74,7 +74,7 @@ peer_of: Callable[[bytes], Address] = Kept(_peer_of).__getitem__
 
 
 def socket_address(address: bytes) -> SocketAddress:
-    """The address of a socket from the library. Where an answer has none, its host is empty and its port 0."""
+    """The address of a socket from the library. If an answer has none, its host is empty and its port 0."""
     if address == c.NO_ADDRESS:
         return Address("", 0)
     _, flow, scope, _, _, _ = c.ADDRESS.unpack(address)
@@ -92,12 +92,12 @@ def canonical(host: str) -> str:
 
 
 def checked_peer(peer: AddressLike) -> Address:
-    """The address of a peer, with its IP address as the library writes it. `ValueError` where it is none."""
+    """The address of a peer, with its IP address as the library writes it. `ValueError` if it is none."""
     return peer_of(packed(peer))
 
 
 def checked_ip(ip: str) -> str:
-    """An IP address as the library writes it. `ValueError` where it is none."""
+    """An IP address as the library writes it. `ValueError` if it is none."""
     return peer_of(packed_ip(ip)).host
 
 

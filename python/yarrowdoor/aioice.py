@@ -4,7 +4,7 @@
     yarrowdoor.aioice.install()                     # before connections gather candidates
 
 An `aioice.Connection` with `turn_server`, and what is built on it (`aiortc`), then relays by this client. `aioice` is needed
-for `install` alone.
+for `install` only.
 """
 from __future__ import annotations
 

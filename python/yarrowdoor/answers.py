@@ -49,7 +49,7 @@ class TcpClose:
 
 @dataclass
 class Closed:
-    """The client has ended. Where the server never answered, an event may be left, that says so."""
+    """The client has ended. If the server never answered, an event may be left that says so."""
 
     __slots__ = ()
 
@@ -74,7 +74,7 @@ class Handled:
 
 @dataclass
 class Ignored:
-    """The bytes were not for this client, or nobody had to have signed them."""
+    """The bytes were not for this client, or nothing shows that the server sent them."""
 
     __slots__ = ()
 

@@ -15,11 +15,11 @@ With one socket, the one to the server, `data_to` and `data_from` take less time
 data where it lies, for `socket.sendmsg`.
 
 Times are nanoseconds of a clock that never goes back, from 0 to 2^62. An address is what sockets have: `(IP, port)`, and for
-IPv6 `(IP, port, flow, scope)` where one of the two is not 0. Transports are `"udp"` and `"tcp"`.
+IPv6 `(IP, port, flow, scope)` if one of the two is not 0. Transports are `"udp"` and `"tcp"`.
 
 What an answer of the server means, and when, is specified by `docs/rattle/MACHINE.md` in the repository, and proved of the library.
 
-Errors: `ValueError` where the arguments are no call; `Refused` where the client refuses one; `MemoryError` where a memory
+Errors: `ValueError` if the arguments are no call; `Refused` if the client refuses one; `MemoryError` if a memory
 allocation failed, after which the client is valid and may have ended: poll it; `Busy` for a second thread at the same time.
 """
 from __future__ import annotations
@@ -57,22 +57,31 @@ _REASONS = {1: "already-exists", 2: "no-allocation", 3: "no-permission", 4: "no-
 class Client:
     """A TURN client. It sends nothing until it is polled.
 
-    `local` and `remote` are the addresses of the socket and of the server. `user` and `password` are bytes, or text that is
-    encoded as UTF-8 (typed text has to be prepared before; RFC 8489, section 14.3). `transport` is that to the server, and
-    `allocation` that between server and peers: `"tcp"` (RFC 6062) needs a `transport` of `"tcp"`. `families` are those of
-    the relayed addresses: 4, 6 or both. `algorithms` are those that may sign requests (RFC 8489, sections 14.5 and
-    14.6): of both, SHA-256 does if the server offers it. `anonymous` hides the user name (section 14.4). The transaction IDs
-    are drawn from `seed`: 32 bytes that nobody else knows; the system's random numbers by default. The client answers
-    `max_stale_nonces` challenges in a row, 1 to 65,535, and the next one ends it (`docs/REAL-SERVERS.md` in the repository).
-    A client that nothing refers to any more is freed.
+    A client that nothing refers to any more is freed. `TypeError` if user or password is neither text nor bytes, or `times` is not
+    `Times`; `ValueError` for other values that are out of range.
 
-    Between two requests lies a `pause`, in nanoseconds, or none where it is 0. With a `keepalive` above 0 the client sends
-    something when it has sent nothing for so long, in nanoseconds. A permission and a channel are refreshed `refresh_ahead`
-    before they expire, in nanoseconds, at least a second. A request waits for its response from when its first packet is taken
-    (RFC 8489, section 6.2.1); if `timed_from_send` is False, it does so from when it is made, also while it is queued.
-
-    `anonymous` is `"auto"` (as the client sees the server offer it: never, so far), `"required"` (always) or `"disabled"` (never).
-    `TypeError` where user or password is neither text nor bytes, or `times` is not `Times`.
+    :param local: the address of the socket to the server.
+    :param remote: the address of the server.
+    :param user: the user name, 1 to 508 bytes, or text that is encoded as UTF-8 (typed text has to be prepared before; RFC 8489,
+        section 14.3).
+    :param password: the password, up to 65,535 bytes, or text that is encoded as UTF-8.
+    :param transport: that to the server, `"udp"` or `"tcp"`.
+    :param allocation: that between server and peers: `"tcp"` (RFC 6062) needs a `transport` of `"tcp"`.
+    :param families: those of the relayed addresses: 4, 6 or both.
+    :param algorithms: those that may sign requests (RFC 8489, sections 14.5 and 14.6): `"sha256"`, `"sha1"` or both. Of both,
+        SHA-256 does if the server offers it.
+    :param anonymous: whether the user name is hidden (section 14.4): `"auto"` (as the client sees the server offer it: never, so
+        far), `"required"` (always) or `"disabled"` (never).
+    :param times: how long a request waits for its response, by default 39.5 s in all.
+    :param max_stale_nonces: how many challenges in a row are answered, 1 to 65,535; the next one ends the client
+        (`docs/REAL-SERVERS.md` in the repository).
+    :param pause: the least time between two requests, in nanoseconds. 0: none.
+    :param keepalive: after this many nanoseconds without a packet one is sent. 0: never.
+    :param refresh_ahead: how long before its expiry a permission or channel is refreshed, in nanoseconds, at least a second.
+    :param timed_from_send: whether a request waits for its response from when its first packet is taken (RFC 8489, section 6.2.1).
+        With False it does so from when it is made, also while it is queued.
+    :param seed: the 32 bytes that transaction IDs are made from, which nobody else knows. None: the system's random numbers.
+    :param library: the library to use, by default the one that all share.
     """
 
     def __init__(self, local: AddressLike, remote: AddressLike, user: Union[str, bytes], password: Union[str, bytes], *,
@@ -205,18 +214,18 @@ class Client:
     def bind_channel(self, peer: AddressLike, now: int, *, transport: Optional[str] = None) -> None:
         """Requests a channel, and with it a permission (RFC 8656, section 12). An event reports the outcome.
 
-        `Refused`: `no-allocation`; `already-exists`, also where all 4,096 numbers are taken; `expired`, up to `until`.
+        `Refused`: `no-allocation`; `already-exists`, also if all 4,096 numbers are taken; `expired`, up to `until`.
         """
         self._ask(now, c.BIND_CHANNEL, transport=self._relay(transport), peer=packed(peer))
 
     def set_permission_kept(self, ip: str, is_kept: bool, *, transport: Optional[str] = None) -> None:
         """Says whether the permission of an IP address is refreshed, as each is at first. One that is not ends by itself, with its
-        event. `Refused` (`not-granted`) where there is none."""
+        event. `Refused` (`not-granted`) if there is none."""
         self._ask(0, c.SET_PERMISSION_KEPT, id=int(is_kept), transport=self._relay(transport), peer=packed_ip(ip))
 
     def set_channel_kept(self, peer: AddressLike, is_kept: bool, *, transport: Optional[str] = None) -> None:
         """Says whether the channel of a peer is refreshed, as each is at first. One that is not ends by itself, with its event; its
-        permission is another grant. `Refused` (`not-granted`) where there is none."""
+        permission is another grant. `Refused` (`not-granted`) if there is none."""
         self._ask(0, c.SET_CHANNEL_KEPT, id=int(is_kept), transport=self._relay(transport), peer=packed(peer))
 
     def tcp_connect(self, peer: AddressLike, now: int) -> None:
@@ -232,7 +241,7 @@ class Client:
 
         An event says that it is bound, or that it failed; there is none with None, nor where the connection ends before.
 
-        `Refused`: `no-allocation` where no such connection is offered, `already-exists` where another has this address.
+        `Refused`: `no-allocation` if no such connection is offered, `already-exists` if another has this address.
         """
         own = c.NO_ADDRESS if local is None else packed(local)
         self._ask(now, c.ALLOCATED_TCP_SOCKET, id=wanted.id, transport=number(TRANSPORTS, wanted.transport),
@@ -245,7 +254,7 @@ class Client:
 
     def delete(self, now: int) -> None:
         """Requests that the server delete the allocations (RFC 8656, section 8): poll and transmit until `Closed`, for as long as
-        you care to wait: where the server answers with an error other than 437 it does not come.
+        you care to wait: if the server answers with an error other than 437 it does not come.
 
         `Refused`: `no-allocation`.
         """
@@ -254,7 +263,7 @@ class Client:
     def abandon(self, now: int) -> Optional[Packet]:
         """Gives up all allocations at once: the packet that deletes them at the server, past the pause and what is queued, or None
         where there is none. The client has ended then: `poll` answers `Closed`. For a caller that closes its socket right away.
-        `LibraryError` where the library for C is older than this call."""
+        `LibraryError` if the library for C is older than this call."""
         if not getattr(self._library, "has_abandon", True):
             raise LibraryError("the library for C is older than this package: it has no call to abandon allocations")
         answer, data = self._handle.call(now, c.ABANDON)
@@ -297,7 +306,7 @@ class Client:
 
 
 def _refuse(answer: c.Answer) -> None:
-    """Raises `Refused` where the client refused the call."""
+    """Raises `Refused` if the client refused the call."""
     if answer.kind == c.REFUSED:
         raise Refused(_REASONS.get(answer.error, str(answer.error)), answer.time)
 

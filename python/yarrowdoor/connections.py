@@ -107,7 +107,7 @@ class RelayServer:
         self._tasks.spawn(self.relay.close())
 
     async def wait_closed(self) -> None:
-        """Waits for the end. `Ended` where the relayed address was lost."""
+        """Waits for the end. `Ended` if the relayed address was lost."""
         await self.relay.wait_closed()
 
     async def serve_forever(self) -> None:
@@ -147,7 +147,7 @@ def _client(uri: Union[str, TurnUri], credentials: CredentialsLike, local_addr: 
 
 
 async def _resolved(host: str, port: int, family: int) -> Tuple[str, int]:
-    """The first address of a name. `ConnectFailed` where it has none."""
+    """The first address of a name. `ConnectFailed` if it has none."""
     kind = socket.AF_INET6 if family == 6 else socket.AF_INET
     try:
         found = await look_up(host, port, type=socket.SOCK_STREAM, family=kind)

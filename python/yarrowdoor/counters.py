@@ -21,7 +21,7 @@ class Counters:
     """data to peers that the socket took"""
     bytes_out: int = 0
     dropped: int = 0
-    """data of peers that nobody took, since `queue` packets of it were waiting"""
+    """data of peers that were not taken, since `queue` packets of it were waiting"""
     unsent: int = 0
     """data to peers that the socket did not take"""
     requests: int = 0

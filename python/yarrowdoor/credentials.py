@@ -31,7 +31,7 @@ CredentialsLike = Union[Tuple[Text, Text], Callable[[], Union[Tuple[Text, Text],
 
 
 def rest_credentials(secret: Text, user: str = "", ttl: float = 86_400) -> Credentials:
-    """Credentials that a server takes for `ttl` seconds from now on, where it shares a secret with who makes them: those of "A REST
+    """Credentials that a server takes for `ttl` seconds from now on, if it shares a secret with who makes them: those of "A REST
     API for access to TURN services", and of coturn's `use-auth-secret`.
 
     The user name is `EXPIRY:USER`, with the expiry in seconds since 1970, and the password the Base64 of its HMAC-SHA-1. The clocks
@@ -47,7 +47,7 @@ def rest_credentials(secret: Text, user: str = "", ttl: float = 86_400) -> Crede
 
 
 def check_source(source: object) -> None:
-    """`TypeError` where this is neither a pair of texts nor a function without arguments."""
+    """`TypeError` if this is neither a pair of texts nor a function without arguments."""
     if not callable(source):
         checked_pair(source)
         return
@@ -60,7 +60,7 @@ def check_source(source: object) -> None:
 
 
 def checked_pair(found: object) -> Credentials:
-    """User and password, as a source has given them. `TypeError` where it is no pair of texts."""
+    """User and password, as a source has given them. `TypeError` if it is no pair of texts."""
     if not isinstance(found, tuple) or len(found) != 2:
         raise TypeError("credentials is a user and a password, or a function, async or not, that returns them")
     for name, value in zip(("user", "password"), found):
@@ -69,7 +69,7 @@ def checked_pair(found: object) -> Credentials:
 
 
 def one_source(user: Optional[Text], password: Optional[Text], credentials: Optional[_Source]) -> Union[Tuple[Text, Text], _Source]:
-    """The credentials of a call that takes them as two arguments, or as one. `TypeError` where it has neither, or both."""
+    """The credentials of a call that takes them as two arguments, or as one. `TypeError` if it has neither, or both."""
     if credentials is not None:
         if user is not None or password is not None:
             raise TypeError("either user and password, or credentials=")
@@ -88,5 +88,5 @@ async def asked(source: CredentialsLike) -> object:
 
 
 async def ask(source: CredentialsLike) -> Credentials:
-    """The credentials of a source. `TypeError` where it gives something else."""
+    """The credentials of a source. `TypeError` if it gives something else."""
     return checked_pair(await asked(source))

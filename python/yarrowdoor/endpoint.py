@@ -95,7 +95,8 @@ async def endpoint_over(factory: Callable[[], Protocol], make: Callable[[Callabl
 class RelayTransport(asyncio.DatagramTransport):
     """Sends from a relayed address, and binds a channel to each peer first. A peer that can have none is sent longer packets.
 
-    The protocol is told to pause while more bytes wait for channels than `set_write_buffer_limits` says, or the socket is full.
+    The protocol's `pause_writing` is called when more bytes wait for channels than `set_write_buffer_limits` says, or the socket is
+    full.
     """
 
     def __init__(self, protocol: Any, relay: TurnClient, remote: Optional[Address] = None) -> None:
@@ -141,7 +142,7 @@ class RelayTransport(asyncio.DatagramTransport):
     def sendto(self, data: Any, addr: Optional[Any] = None) -> None:
         """Sends data to a peer, when it has a channel. If the server lets it have none, the data is dropped, and the protocol's
         `error_received` called, as for data that is too long. `ValueError` if there is no peer, one that is no IP address, or
-        another one than `remote_addr`; `TypeError` where the data is none."""
+        another one than `remote_addr`; `TypeError` if the data is none."""
         if not isinstance(data, (bytes, bytearray, memoryview)):
             raise TypeError(f"data is bytes, a bytearray or a memoryview, and not {type(data).__name__}")
         peer = checked_peer(addr) if addr is not None else self._remote
@@ -247,6 +248,7 @@ class RelayTransport(asyncio.DatagramTransport):
         self._lose(None)
 
     def is_closing(self) -> bool:
+        """Whether the transport is closing or closed."""
         return self._is_closing
 
     def get_write_buffer_size(self) -> int:
@@ -268,7 +270,9 @@ class RelayTransport(asyncio.DatagramTransport):
         self._count(0)
 
     def get_protocol(self) -> Any:
+        """The protocol that gets what peers send."""
         return self.protocol
 
     def set_protocol(self, protocol: Any) -> None:
+        """Gives what peers send to another protocol from now on."""
         self.protocol = protocol

@@ -60,7 +60,7 @@ class AllocationFailed(_Hinted):
     """
 
     alternate: Optional[Tuple[str, int]] = None
-    """the address of another server, where the error response is 300 and has one (RFC 8489, section 10). It is a hint too"""
+    """the address of another server, if the error response is 300 and has one (RFC 8489, section 10). It is a hint too"""
 
 
 class WrongCredentials(AllocationFailed):

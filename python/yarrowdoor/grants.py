@@ -66,7 +66,7 @@ class Grants:
                 self.set_kept(key.about, True)
 
     async def permit_to_send(self, ip: str) -> None:
-        """The same, for data that is to be sent: a peer that was refused is left alone for a while."""
+        """The same, for data that is to be sent: a peer that was refused is not asked again for a while."""
         rest = self._rests.get(ip)
         if rest is not None and self._clock.now() < rest.until:
             why = f"no permission for {ip}: it failed less than {rest.seconds:.0f} s ago, and is not asked for again so soon"

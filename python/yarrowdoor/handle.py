@@ -96,7 +96,7 @@ class Handle:
 
     def _retake(self) -> object:
         """Takes the client where a call that was interrupted has not given it back: an exception of a signal's handler, as that of
-        Ctrl-C, may be raised between any two steps. `Busy` where another call is under way, and `ValueError` after `free`."""
+        Ctrl-C, may be raised between any two steps. `Busy` if another call is under way, and `ValueError` after `free`."""
         with _retaking:
             if self._is_free:
                 raise ValueError("the client was closed")
@@ -131,7 +131,7 @@ class Handle:
              peer: bytes = NO_ADDRESS, local: bytes = NO_ADDRESS) -> Tuple[Answer, bytes]:
         """Makes a call: its answer, and all bytes of it, also those that are read piece by piece.
 
-        `Busy`, `ValueError` where it is no call, and `MemoryError`, after which the client is valid, and may have ended.
+        `Busy`, `ValueError` if it is no call, and `MemoryError`, after which the client is valid, and may have ended.
         """
         client = self._begin()
         try:

@@ -16,7 +16,7 @@ Receiver = Callable[[bytes, Address], None]
 
 
 class Taker(asyncio.Future[None]):
-    """What the task waits for that takes data. It can be told to go on at once, and not in the next round of the event loop."""
+    """What the task waits for that takes data. It can go on at once, and not in the next round of the event loop."""
 
     def __init__(self) -> None:
         super().__init__()

@@ -22,7 +22,7 @@ __all__ = ["Library", "find", "load"]
 class Library:
     """The library, loaded from a file, or by its name from where the system has its libraries.
 
-    `LibraryError` where there is none, or where its version or its structs are others than those of this package.
+    `LibraryError` if there is none, or if its version or its structs are others than those of this package.
     """
 
     def __init__(self, path: Union[str, os.PathLike[str], None] = None) -> None:
@@ -52,13 +52,13 @@ class Library:
         _check_layout(self)
 
     def kept_grants(self, load: bytes, pause: int, refresh_ahead: int) -> int:
-        """The answer of `yarrowdoor_kept_grants`. `LibraryError` where the library is too old for it."""
+        """The answer of `yarrowdoor_kept_grants`. `LibraryError` if the library is too old for it."""
         if self._kept_grants is None:
             raise LibraryError(f"{self.path} is older than this package: it has no yarrowdoor_kept_grants")
         return int(self._kept_grants(ctypes.c_char_p(load), ctypes.c_uint64(pause), ctypes.c_uint64(refresh_ahead)))
 
     def longest_cadence(self, load: bytes, count: int, refresh_ahead: int) -> int:
-        """The answer of `yarrowdoor_longest_cadence`. `LibraryError` where the library is too old for it."""
+        """The answer of `yarrowdoor_longest_cadence`. `LibraryError` if the library is too old for it."""
         if self._longest_cadence is None:
             raise LibraryError(f"{self.path} is older than this package: it has no yarrowdoor_longest_cadence")
         return int(self._longest_cadence(ctypes.c_char_p(load), ctypes.c_uint64(count), ctypes.c_uint64(refresh_ahead)))
@@ -101,7 +101,7 @@ def find() -> Optional[str]:
 
 @functools.lru_cache(maxsize=None)
 def load() -> Library:
-    """The library that `find` names, loaded once. `LibraryError` where it cannot be used."""
+    """The library that `find` names, loaded once. `LibraryError` if it cannot be used."""
     return Library(find())
 
 

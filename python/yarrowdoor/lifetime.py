@@ -194,7 +194,7 @@ class Lifetime(Opened):
             phase.abort()
 
     async def wait_closed(self) -> None:
-        """Waits until the client has ended. Raises `Ended` where it ended by itself, or was not opened; its text says why."""
+        """Waits until the client has ended. Raises `Ended` if it ended by itself, or was not opened; its text says why."""
         if isinstance(self._phase, Connecting):
             await asyncio.wait([self._phase.task])
         if not isinstance(self._phase, Session):
@@ -217,7 +217,7 @@ class Lifetime(Opened):
         return not isinstance(state, Over) or state.why is not None
 
     def _session(self) -> Session:
-        """The session. `Ended` where the client has ended, is being closed, or was not opened."""
+        """The session. `Ended` if the client has ended, is being closed, or was not opened."""
         phase = self._phase
         if not isinstance(phase, Session) or isinstance(phase.state, (Leaving, Over)):
             raise self._ending()

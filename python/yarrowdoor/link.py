@@ -19,8 +19,8 @@ __all__ = ["DatagramLink", "Link", "LinkUser", "StreamLink"]
 MAX_DATAGRAM, BATCH = 65_535, 32
 # After so many datagrams that came alone it is looked whether another one waits: that there is none costs as much as to read one.
 ALONE = 8
-# A longer piece of the connection to the server is taken in slices of so many bytes, and after so many seconds the event loop goes
-# on in between: 256 KiB may be 65,536 messages.
+# A longer piece of the connection to the server is taken in slices of this many bytes, and after this many seconds the event loop
+# goes on in between: 256 KiB may be 65,536 messages.
 SLICE, AT_ONCE = 8_192, 0.005
 # So many messages of the client wait for a socket over UDP that is full. A further one is lost, as a network may lose it.
 MAX_LATE = 64
@@ -148,12 +148,14 @@ class DatagramLink(Link):
                 self._loop.add_reader(self._number, self._read)
 
     def send(self, data: bytes) -> None:
+        """Sends a message of the client, when the socket has room. Of more than `MAX_LATE` that wait, the last are dropped."""
         if not self._late:
             self.send_data(data)
         elif len(self._late) < MAX_LATE:
             self._late.append(data)
 
     def send_data(self, data: bytes) -> bool:
+        """Sends data unless messages wait or the socket refuses it, and returns whether it was sent."""
         if self.is_over or self._late:
             return False
         try:
@@ -183,6 +185,7 @@ class DatagramLink(Link):
             self.resume_writing()
 
     def close(self) -> None:
+        """Closes the socket at once."""
         if self.is_over:
             return
         self.is_over = True
@@ -194,6 +197,7 @@ class DatagramLink(Link):
         self.socket.close()
 
     def abort(self) -> None:
+        """As `close`: no datagram waits to leave."""
         self.close()
 
 
@@ -210,6 +214,7 @@ class StreamLink(Link, asyncio.Protocol):
         self._lost: asyncio.Future[None] = asyncio.get_running_loop().create_future()
 
     def connection_made(self, transport: Any) -> None:
+        """The connection is open. One that was reset already is aborted."""
         self.transport = transport
         names = [transport.get_extra_info(it) for it in ("sockname", "peername")]
         if None in names:
@@ -219,6 +224,7 @@ class StreamLink(Link, asyncio.Protocol):
         _notice_silence(transport)
 
     def connection_lost(self, exc: Optional[Exception]) -> None:
+        """The connection is closed. What had arrived is passed on before its user is informed."""
         last, self._slices = self._slices, collections.deque()
         for piece in last:
             self._received(piece, self)
@@ -228,6 +234,7 @@ class StreamLink(Link, asyncio.Protocol):
         self._user.ended(self, exc)
 
     def data_received(self, data: bytes) -> None:
+        """Passes on a piece of the stream, a long one over TLS in slices."""
         if self._slices:  # Some event loops give more of a connection over TLS that is paused.
             self._slices.append(data)
         elif self.has_slices and len(data) > SLICE:
@@ -251,16 +258,19 @@ class StreamLink(Link, asyncio.Protocol):
                 self.transport.resume_reading()
 
     def send(self, data: bytes) -> None:
+        """Sends a message of the client; once the connection is closing it is dropped."""
         if not self.is_over and not self.transport.is_closing():
             self.transport.write(data)
 
     def send_data(self, data: bytes) -> bool:
+        """Sends data, or drops it if the buffer is full or the connection closed, and returns whether it was sent."""
         if self.is_over or not self.writable.is_set():
             return False
         self.transport.write(data)
         return True
 
     def close(self) -> None:
+        """Closes the connection when its buffer is empty."""
         self.is_over = True
         self.writable.set()
         # From Python 3.11 on a transport over TLS that is closed twice cannot be aborted any more.
@@ -268,11 +278,13 @@ class StreamLink(Link, asyncio.Protocol):
             self.transport.close()
 
     def abort(self) -> None:
+        """Closes the connection at once. What waits in its buffer is dropped."""
         self.is_over = True
         self.writable.set()
         self.transport.abort()
 
     async def wait_closed(self) -> None:
+        """Waits until the connection is closed."""
         await asyncio.wait([self._lost])
 
 

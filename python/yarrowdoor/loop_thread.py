@@ -116,7 +116,7 @@ class LoopThread:
 
     def call(self, make: Callable[[], Awaitable[_Result]], seconds: Optional[float] = None) -> _Result:
         """Has the loop do something, and waits for what that returns or raises. It is cancelled where the wait is interrupted, and
-        after so many seconds: `NotAnswered`, as where the loop has ended. `RuntimeError` in the thread itself."""
+        after that many seconds: `NotAnswered`, as where the loop has ended. `RuntimeError` in the thread itself."""
         if self.is_here:
             raise RuntimeError("a function that the client calls cannot wait for the client: have another thread make this call")
         call = _Call(make)

@@ -1,4 +1,4 @@
-"""What a client tells its user without being asked: what is lost, errors of its socket, and whether it is full."""
+"""What a client reports by itself: what is lost, errors of its socket, and whether it is full."""
 from __future__ import annotations
 
 import asyncio

@@ -53,7 +53,7 @@ class Opened:
         return self
 
     async def __anext__(self) -> Tuple[bytes, Address]:
-        """The next data of a peer. It ends with `close`; `Ended` where this has ended by itself, or was not opened;
+        """The next data of a peer. It ends with `close`; `Ended` if this has ended by itself, or was not opened;
         `RuntimeError` with `receiver=`, which takes all. A `Relay` goes on while it is down."""
         found = self._inbox.pop() or await self._take()
         if found is None:
@@ -63,7 +63,7 @@ class Opened:
         return found
 
     async def receive(self) -> Tuple[bytes, Address]:
-        """The next data of a peer, and the peer. `Ended` where this has ended, or was not opened; `RuntimeError` with `receiver=`,
+        """The next data of a peer, and the peer. `Ended` if this has ended, or was not opened; `RuntimeError` with `receiver=`,
         which takes all."""
         found = self._inbox.pop() or await self._take()
         if found is None:

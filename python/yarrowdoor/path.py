@@ -20,7 +20,7 @@ __all__ = ["Check", "Path"]
 
 # How long an answer to a Binding request is waited for, after each time that it was sent, in seconds (RFC 8489, section 6.2.1).
 WAITS = (0.5, 1.0, 2.0)
-# So many checks in a row without an answer end the relay, and so many errors in a row, each a second after the last one.
+# This many checks in a row without an answer end the relay, and this many errors in a row, each a second after the last one.
 RUN = 3
 PAUSE = 1.0
 # How often the system is asked for a route to a server over TCP, in seconds.
@@ -33,7 +33,7 @@ class Check(NamedTuple):
     is_answered: bool
     """whether the server has answered. One that answers no Binding request, as coturn with `--no-stun`, never does"""
     mapped: Optional[Address]
-    """this client's own address as the server sees it now, if it says that. Where it is another one than before, a NAT has
+    """this client's own address as the server sees it now, if it says that. If it is another one than before, a NAT has
     forgotten the client, and the relayed address is lost (RFC 8656, section 3.2): the client asks the server for it, and ends"""
 
 
@@ -59,7 +59,7 @@ class Path:
         self._session = session
         self.standing = Standing(session)
         self._checks: Dict[bytes, asyncio.Future[Optional[Address]]] = {}
-        # The mapped address that the last check has told, and what asks for the relayed address.
+        # The mapped address of the last check, and what asks for the relayed address.
         self._mapped: Optional[Address] = None
         self._asking: Optional[asyncio.Future[bool]] = None
         self._errors = 0
@@ -68,7 +68,7 @@ class Path:
         self._watching = asyncio.ensure_future(self._watch_route()) if session.link.is_stream else None
 
     async def check(self) -> Check:
-        """Asks the server for a sign of life. `Ended` where the client has ended."""
+        """Asks the server whether it answers. `Ended` if the client has ended."""
         session, transaction = self._session, os.urandom(12)
         answer = self._checks[transaction] = asyncio.get_running_loop().create_future()
         try:
@@ -102,7 +102,7 @@ class Path:
             self.ask()
 
     def ask(self) -> asyncio.Future[bool]:
-        """Asks the server whether it still knows the relayed address; where it does not, the session ends. Gives whether it has
+        """Asks the server whether it still knows the relayed address; if it does not, the session ends. Gives whether it has
         answered."""
         if self._asking is None or self._asking.done():
             self._asking = asyncio.ensure_future(self._ask())
@@ -122,7 +122,7 @@ class Path:
         return asking.done() and asking.result()
 
     def probe(self, every: float) -> None:
-        """Checks the path by itself, every so many seconds. The relay ends when `RUN` checks in a row have no answer, nor have
+        """Checks the path by itself, at an interval. The relay ends when `RUN` checks in a row have no answer, nor have
         signed requests."""
         self._probing = asyncio.ensure_future(self._probe(every))
 
@@ -152,7 +152,7 @@ class Path:
         session.breaks(f"the connection to the server has ended: {error}", error)
 
     def refused(self, error: Exception) -> None:
-        """The socket has told an error. One may pass; several in a row, with nothing from the server between, end the relay."""
+        """The socket has reported an error. One may pass; several in a row, with nothing from the server between, end the relay."""
         self._errors += 1
         if self._suspicion is None or self._suspicion.done():
             self._suspicion = asyncio.ensure_future(self._suspect(error))

@@ -1,7 +1,7 @@
 """What the packets of client and server say beside what the client answers: error codes, the mapped address, who asked for what.
 
 Nobody has to have signed an error code, so it is a hint: anyone who knows the addresses can send such a packet
-(`docs/REAL-SERVERS.md` in the repository, "The reason in an unsigned error"). The rest of the package uses `read`, `attribute`,
+(`docs/REAL-SERVERS.md` in the repository, "A wrong password looks like silence"). The rest of the package uses `read`, `attribute`,
 `xored` and `Frames`, and looks at no byte of a message by itself.
 """
 from __future__ import annotations
@@ -104,6 +104,8 @@ class Frames:
         return not self._front and len(piece) == 4 + (size + 3) // 4 * 4
 
     def messages(self, piece: bytes) -> Iterator[bytes]:
+        """The STUN messages that end in this piece of the stream. ChannelData is passed over; after a byte that begins no frame
+        there are none."""
         data, place = self._front + piece if self._front else piece, 0
         self._front = b""
         if self._is_broken:

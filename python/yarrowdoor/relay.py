@@ -49,25 +49,39 @@ class Relay(Told, Opened):
         async with Relay("turn:turn.example.org", "user", "password", on_state=print) as relay:
             await relay.send(b"hello", ("192.0.2.7", 9000))
 
-    When its client ends for a reason that a new one may mend (nothing answers, the server was restarted or no longer knows the
+    When its client ends for a reason that a new one may cure (nothing answers, the server was restarted or no longer knows the
     address, this host has another address, a stream broke), another one is tried: at once, and then after the waits of `backoff`,
     each until the server is silent for four seconds. The waits begin anew after a relay that was up for a minute. It asks for the
     same permissions and channels, and then the relay is up. `on_state` is called with each change, `Up` or `Down`, and `states`
-    gives them. Peers have to be told the new address: `Up.is_new` says so.
+    gives them. Peers have to learn the new address from you: `Up.is_new` says that there is one.
 
-    Meanwhile `sendto` drops data, which `unsent` counts. So does `send`, or with `waits=True` it waits until the relay is up.
-    Requests wait. `lost` and `on_lost` report what the server did not grant again. `credentials` is as for a `TurnClient`, and
-    asked at each try.
+    Meanwhile `sendto` drops data, which `unsent` counts, and so does `send` without `waits=True`. Requests wait. `lost` and
+    `on_lost` report what the server did not grant again.
 
-    Every `probe` seconds the path is checked, or never with None. Where a check has no answer, the server is asked by a signed
-    request, so that one that answers no check, as coturn with `--no-stun`, does no harm. A server over UDP that was restarted
-    answers checks as before: it is noticed when a packet of this client met its closed port, and else at the next refresh, up to
-    two and a half minutes later where there is a permission.
+    If a check of the path has no answer, the server is asked by a signed request, so that one that answers no check, as coturn
+    with `--no-stun`, does no harm. A server over UDP that was restarted answers checks as before: it is noticed when a packet of
+    this client met its closed port, and else at the next refresh, up to two and a half minutes later if there is a permission.
 
-    The relay ends where user name or password are refused twice in a row, by a server that answers nothing signed (with
-    `credentials` as a function those of two calls), where the server refuses this user (403), has no room for it three times in
+    The relay ends if user name or password are refused twice in a row, by a server that answers nothing signed (with
+    `credentials` as a function those of two calls), if the server refuses this user (403), has no room for it three times in
     a row (486), names another server that is not to be asked (300) or cannot do what is asked (440, 442), and when it is
-    closed. What the other arguments are, `TurnClient` says. It relays over UDP, and has no streams.
+    closed. It relays over UDP, and has no streams.
+
+    :param uri: the server's (RFC 7065), as text or parsed: `turn:HOST`, `turn:HOST:PORT?transport=tcp`, `turns:HOST`.
+    :param user: the user name; text is encoded as UTF-8.
+    :param password: the password; text is encoded as UTF-8.
+    :param credentials: in place of user and password both as a pair, or a function that returns both, async or not: it is called
+        at each try.
+    :param backoff: how long to wait between the beginnings of two tries.
+    :param waits: whether `send` waits until the relay is up, rather than drop data.
+    :param on_state: a function that is called with each `Up` and `Down`.
+    :param probe: how often the path to the server is checked, in seconds. None: never.
+    :param times: how long a request waits for its response (`Times`), by default 3 s in all.
+    :param queue: how many packets of peers may wait to be taken; a further one is dropped and counted.
+    :param receiver: a function that is called with data and peer, in place of the queue. It runs in the event loop, and must not
+        block.
+    :param open_timeout: how many seconds `open` tries. None: no limit.
+    :param settings: further arguments of `TurnClient`, except `relay="tcp"` and `sock`.
     """
 
     def __init__(self, uri: Union[str, TurnUri], user: Optional[Text] = None, password: Optional[Text] = None, *,
@@ -84,7 +98,7 @@ class Relay(Told, Opened):
         check_seconds(above_zero={"open_timeout": open_timeout}, from_zero={})
         self._uri, self._waits, self._states, self._open_timeout = uri, waits, States(on_state), open_timeout
         given = {**settings, "times": times, "receiver": self._inbox.put}
-        # Nothing of this goes back to the relay, so that one that nobody has any more is collected.
+        # Nothing of this goes back to the relay, so that one without references is collected.
         make = functools.partial(_client, self._notices.counters, uri, given)
         client = make(Credentials("", ""))  # says what is wrong with the arguments
         if client.ssl is not None:
@@ -109,7 +123,7 @@ class Relay(Told, Opened):
     async def open(self) -> None:
         """Tries until the relay is up for the first time, or for `open_timeout` seconds: what entering does. It is called once.
 
-        Raises what ends a relay: `WrongCredentials`, `AllocationFailed`. `RuntimeError` where it was called before.
+        Raises what ends a relay: `WrongCredentials`, `AllocationFailed`. `RuntimeError` if it was called before.
         """
         self._revival.start()
         try:
@@ -134,7 +148,7 @@ class Relay(Told, Opened):
         self._revival.abort()
 
     async def wait_closed(self) -> None:
-        """Waits until the relay has ended. Raises `Ended` where it ended by itself, or was not opened; its text says why."""
+        """Waits until the relay has ended. Raises `Ended` if it ended by itself, or was not opened; its text says why."""
         await self._revival.wait()
         if self._has_failed():
             raise self._ending()
@@ -162,19 +176,19 @@ class Relay(Told, Opened):
 
     def states(self) -> AsyncIterator[State]:
         """The state now, and each change of it: `Up`, `Down`. At most 64 wait to be taken; then the oldest one is forgotten. It
-        ends when the relay is closed, and raises `Ended` where the relay ended by itself."""
+        ends when the relay is closed, and raises `Ended` if the relay ended by itself."""
         return self._states.changes()
 
     @property
     def address(self) -> Address:
-        """The relayed address, or the last one while the relay is down. `Ended` where there never was one."""
+        """The relayed address, or the last one while the relay is down. `Ended` if there never was one."""
         if self._states.address is None:
             raise self._revival.ending()
         return self._states.address
 
     @property
     def addresses(self) -> List[Address]:
-        """All relayed addresses, as `TurnClient.addresses`, or the last ones while the relay is down. `Ended` where there never was
+        """All relayed addresses, as `TurnClient.addresses`, or the last ones while the relay is down. `Ended` if there never was
         one."""
         if not self._revival.addresses:
             raise self._revival.ending()
@@ -187,7 +201,7 @@ class Relay(Told, Opened):
 
     @property
     def local_address(self) -> SocketAddress:
-        """The address of the socket to the server. `Ended` where the relay has ended, and `Refused` while it is down."""
+        """The address of the socket to the server. `Ended` if the relay has ended, and `Refused` while it is down."""
         return self._revival.current().local_address
 
     @property
@@ -208,7 +222,7 @@ class Relay(Told, Opened):
         await self._ask(lambda client: client.bind(where))
 
     async def check(self) -> Check:
-        """Asks the server for a sign of life, as `TurnClient.check`. While the relay is down there is none."""
+        """Asks the server whether it answers, as `TurnClient.check`. While the relay is down there is none."""
         self._revival.check()
         client = self._revival.client
         try:

@@ -71,6 +71,7 @@ class Requests(Record):
                 waiter.exception()  # Nobody has to wait for it any more.
 
     def sent(self, packet: bytes, now: int = 0) -> Optional[Key]:
+        """Records a packet that left, and returns the request that it makes, if it is one. Who waited for it to leave goes on."""
         key = super().sent(packet, now)
         leaves = self._unsent.pop(key, None) if key is not None else None
         if leaves is not None:

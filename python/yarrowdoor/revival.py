@@ -40,7 +40,7 @@ class Revival:
     # Until the end
 
     def start(self) -> None:
-        """Begins. `RuntimeError` where it was begun, or stopped, before."""
+        """Begins. `RuntimeError` if it was begun, or stopped, before."""
         if self._running is not None or self.is_over:
             raise RuntimeError("this relay was opened before: make a new one")
         self._running = asyncio.ensure_future(self._run())
@@ -157,7 +157,7 @@ class Revival:
         return because(Ended(f"the relay has ended: {self.why}"), self.why) if self.why else Ended("the relay was closed")
 
     def check(self) -> None:
-        """`Ended` where no client will come any more."""
+        """`Ended` if no client will come any more."""
         if self.is_over or self._running is None:
             raise self.ending()
 
@@ -167,14 +167,14 @@ class Revival:
         return self._running is not None
 
     def current(self) -> Watched:
-        """The client that is up. `Ended` where none will come any more, and `Refused` (`not-granted`) where there is none yet."""
+        """The client that is up. `Ended` if none will come any more, and `Refused` (`not-granted`) if there is none yet."""
         self.check()
         if self.client is None:
             raise Refused("not-granted", detail="the relay is down")
         return self.client
 
     async def up(self) -> Watched:
-        """Waits until it is up. `Ended` where it has ended."""
+        """Waits until it is up. `Ended` if it has ended."""
         while self.client is None or self.client.closed:
             self.check()
             if self.client is not None:

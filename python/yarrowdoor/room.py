@@ -26,7 +26,7 @@ def _packed(late: float, delay: float, slots: int, extras: int) -> bytes:
 
 
 def _ahead_of(refresh_ahead: float) -> int:
-    """In nanoseconds. `ValueError` where it is no time ahead."""
+    """In nanoseconds. `ValueError` if it is no time ahead."""
     ahead = int(refresh_ahead * 1e9)
     if not 0 < ahead < c.NO_PAUSE:
         raise ValueError(f"refresh_ahead is above 0, and not {refresh_ahead!r}")
@@ -40,7 +40,7 @@ def kept_grants(*, late: float, delay: float, pause: float = 0.005, refresh_ahea
     `late` is how much too late a timer wakes the program at most, and `delay` how long the server's success takes. `pause` and
     `refresh_ahead` are those of the client. At most `slots` other requests wait to be sent, and within `refresh_ahead` there are
     at most `extras` retransmissions and requests that the server has challenged. 0 where there is room for none, and 2^64 - 1
-    where no packet takes any time. `ValueError` for what is no such number; `LibraryError` where the library for C is older.
+    if no packet takes any time. `ValueError` for what is no such number; `LibraryError` if the library for C is older.
     """
     between = int(pause * 1e9)
     if not 0 <= between < c.NO_PAUSE:
@@ -50,9 +50,9 @@ def kept_grants(*, late: float, delay: float, pause: float = 0.005, refresh_ahea
 
 def longest_pause(count: int, *, late: float, delay: float, refresh_ahead: float = 150.0, slots: int = MAX_UNSENT,
                   extras: int = 0) -> Optional[float]:
-    """The longest `pause`, in seconds, with which so many permissions and channels are renewed in time; the other numbers are those
-    of `kept_grants`. 0.0 where that needs no pause at all, and None where they are too many even so. `ValueError` for what is no
-    such number; `LibraryError` where the library for C is older.
+    """The longest `pause`, in seconds, with which `count` permissions and channels are renewed in time; the other numbers are those
+    of `kept_grants`. 0.0 if that needs no pause at all, and None if they are too many even so. `ValueError` for what is no such
+    number; `LibraryError` if the library for C is older.
     """
     if not 1 <= count < c.NO_PAUSE:
         raise ValueError(f"count is from 1 on, and not {count!r}")

@@ -72,7 +72,7 @@ class Server:
         return Server(uri, self._ssl, local_addr=self._local_addr, family=self._family, name=self._name)
 
     async def addresses(self) -> List[str]:
-        """The server's IP addresses, in the order in which they are tried. `AllocationFailed` where its name has none."""
+        """The server's IP addresses, in the order in which they are tried. `AllocationFailed` if its name has none."""
         if self._socket is not None:
             return [_scoped(self._socket.getpeername())]
         kind = socket.SOCK_DGRAM if self.uri.transport == "udp" else socket.SOCK_STREAM
@@ -83,7 +83,7 @@ class Server:
         return interleaved(_scoped(it[4]) for it in found)
 
     async def connect(self, host: str) -> Link:
-        """A new socket to the server at this address of it, or the one that was given, which is used once. `OSError` where there is
+        """A new socket to the server at this address of it, or the one that was given, which is used once. `OSError` if there is
         none."""
         if self.uri.transport != "udp":
             return await self._stream(host, self._local_addr)
@@ -127,7 +127,7 @@ class Server:
 
 def bound(host: str, port: int, own: Optional[Tuple[str, int]], kind: int) -> Tuple[socket.socket, SocketName]:
     """A new socket for a connection to this IP address, which may have a scope, from its own one, if that is given, and the address
-    as the system has it. `OSError` where the system refuses it."""
+    as the system has it. `OSError` if the system refuses it."""
     (family, _, protocol, _, where), *_ = socket.getaddrinfo(host, port, type=kind, flags=socket.AI_NUMERICHOST)
     sock = socket.socket(family, kind, protocol)
     try:
@@ -141,7 +141,7 @@ def bound(host: str, port: int, own: Optional[Tuple[str, int]], kind: int) -> Tu
 
 
 def connected(host: str, port: int, own: Optional[Tuple[str, int]] = None) -> socket.socket:
-    """A new socket over UDP that is connected. `OSError` where the system refuses it."""
+    """A new socket over UDP that is connected. `OSError` if the system refuses it."""
     sock, where = bound(host, port, own, socket.SOCK_DGRAM)
     try:
         sock.connect(where)
@@ -159,7 +159,7 @@ def bytes_received(sock: socket.socket) -> int:
 
 
 def _check_socket(sock: socket.socket, uri: TurnUri) -> None:
-    """`ValueError` where a socket is none to a server of this URI. It never blocks from then on."""
+    """`ValueError` if a socket is none to a server of this URI. It never blocks from then on."""
     kind = socket.SOCK_DGRAM if uri.transport == "udp" else socket.SOCK_STREAM
     if sock.family not in (socket.AF_INET, socket.AF_INET6) or sock.type != kind:
         raise ValueError(f"sock is none for {uri}: {sock}")
@@ -207,7 +207,7 @@ async def first_of(hosts: List[str], attempt: Callable[[str], Awaitable[_Found]]
                    alone: Optional[float] = None) -> _Found:
     """Attempts one address after the other, each `STAGGER` after the last one began, or at once where that one has failed. Gives
     what the first one found that succeeds; the other attempts are cancelled, and what one of them finds meanwhile is discarded.
-    With `alone` there is one at a time: all but the last one are given up after so many seconds. `NoneSucceeded` where all fail."""
+    With `alone` there is one at a time: all but the last one are given up after that many seconds. `NoneSucceeded` if all fail."""
     failures: Dict[str, Exception] = {}
     running: Dict[asyncio.Future[_Found], str] = {}
     waiting = list(reversed(hosts))

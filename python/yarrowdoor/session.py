@@ -88,6 +88,7 @@ class Session(LinkUser):
     # The link
 
     def received(self, data: bytes, link: Link) -> None:
+        """Passes what arrived to the client: data goes to the inbox, and then what the client has to send is sent."""
         self.count += 1
         found = self.client.data_from(data, self.clock.now())
         if isinstance(found, tuple):
@@ -154,6 +155,7 @@ class Session(LinkUser):
             self.lease.renew(asked.lifetime if asked is not None else None)
 
     def refused(self, link: Link, error: Exception) -> None:
+        """An error of a socket over UDP: while opening it fails the opening soon, later the path is checked."""
         if isinstance(self.state, Over):
             return
         self.diagnosis.socket_error = error
@@ -164,12 +166,14 @@ class Session(LinkUser):
             self.path.refused(error)
 
     def ended(self, link: Link, error: Optional[Exception]) -> None:
+        """The connection to the server is closed: what had arrived is taken, and the relayed address is gone."""
         if not isinstance(self.state, Over):
             self.client.recv(b"", self.clock.now())
             self.take_rest()
             self.breaks(f"the connection to the server has ended: {error or 'the server closed it'}", error)
 
     def paused(self, link: Link, is_full: bool) -> None:
+        """Reports that the socket is full, or no longer is."""
         self.notices.tell_pause(is_full)
 
     def breaks(self, what: str, error: Optional[Exception]) -> None:
@@ -262,12 +266,12 @@ class Session(LinkUser):
             self.breaks(f"the connection to the server has ended: no answer from {self.server.uri} to a refresh", None)
 
     async def heard(self) -> None:
-        """Waits until the server has answered anything. `AllocationFailed` where it does not."""
+        """Waits until the server has answered anything. `AllocationFailed` if it does not."""
         if isinstance(self.state, Opening):
             await self.state.heard
 
     async def ready(self) -> None:
-        """Waits until there is a relayed address. `AllocationFailed` where there is none."""
+        """Waits until there is a relayed address. `AllocationFailed` if there is none."""
         if isinstance(self.state, Opening):
             await self.state.ready
         elif isinstance(self.state, Over):
@@ -369,13 +373,13 @@ class Session(LinkUser):
             self._loop.call_later(GRACE, self.link.abort)  # The server may have stopped reading.
 
     def open_client(self) -> Client:
-        """The client. `Ended` where it has ended."""
+        """The client. `Ended` if it has ended."""
         if isinstance(self.state, Over):
             raise self.ending()
         return self.client
 
     def usable_client(self) -> Client:
-        """The client, for a call of the user. `Ended` where it has ended, or gives its relayed address back."""
+        """The client, for a call of the user. `Ended` if it has ended, or gives its relayed address back."""
         if isinstance(self.state, (Leaving, Over)):
             raise self.ending()
         return self.client

@@ -37,7 +37,7 @@ class Times:
 
     @classmethod
     def seconds(cls, initial: float = 0.5, longest: float = 1e9, last: float = 8.0, count: int = 7) -> Times:
-        """The same, in seconds. `ValueError` where one is below 0, or over 1e9."""
+        """The same, in seconds. `ValueError` if one is below 0, or over 1e9."""
         for name, value in (("initial", initial), ("longest", longest), ("last", last)):
             if not 0 <= value <= 1e9:
                 raise ValueError(f"{name} is a number of seconds from 0 to 1e9, and not {value!r}")
@@ -45,7 +45,7 @@ class Times:
 
 
 def credential(name: str, value: Union[str, bytes]) -> bytes:
-    """A user name or password as bytes. `TypeError` where it is neither text nor bytes."""
+    """A user name or password as bytes. `TypeError` if it is neither text nor bytes."""
     if isinstance(value, str):
         return value.encode()
     if isinstance(value, (bytes, bytearray, memoryview)):
@@ -54,7 +54,7 @@ def credential(name: str, value: Union[str, bytes]) -> bytes:
 
 
 def check_times(times: Optional[Times]) -> None:
-    """`TypeError` where it is not `Times`, and `ValueError` where a number in it is none."""
+    """`TypeError` if it is not `Times`, and `ValueError` if a number in it is none."""
     if times is None:
         return
     if not isinstance(times, Times):
@@ -67,7 +67,7 @@ def check_times(times: Optional[Times]) -> None:
 
 
 def check_seconds(*, above_zero: Dict[str, Optional[float]], from_zero: Dict[str, float]) -> None:
-    """`ValueError` where one of these is no number of seconds."""
+    """`ValueError` if one of these is no number of seconds."""
     for name, seconds in above_zero.items():
         if seconds is not None and not seconds > 0:
             raise ValueError(f"{name} is a number of seconds above 0, and not {seconds!r}")
@@ -77,7 +77,7 @@ def check_seconds(*, above_zero: Dict[str, Optional[float]], from_zero: Dict[str
 
 
 def checked_families(family: Union[int, Tuple[int, ...]]) -> Tuple[int, ...]:
-    """The families of the relayed addresses. `ValueError` where there are no such."""
+    """The families of the relayed addresses. `ValueError` if there are no such."""
     families = family if isinstance(family, tuple) else (family,)
     if families not in ((4,), (6,), (4, 6), (6, 4)):
         raise ValueError(f"family is 4 or 6, or both as (4, 6), and not {family!r}")
@@ -85,7 +85,7 @@ def checked_families(family: Union[int, Tuple[int, ...]]) -> Tuple[int, ...]:
 
 
 def number(table: Dict[str, int], word: str) -> int:
-    """The number of a word. `ValueError` where it is none of the table."""
+    """The number of a word. `ValueError` if it is none of the table."""
     try:
         return table[word]
     except (KeyError, TypeError):
@@ -95,7 +95,7 @@ def number(table: Dict[str, int], word: str) -> int:
 def packed_settings(local: bytes, remote: bytes, way: int, relay_way: int, families: Sequence[int], algorithms: Sequence[str],
                     anonymous: str, times: Optional[Times], max_stale_nonces: int, pause: int, keepalive: int,
                     refresh_ahead: int, timed_from_send: bool) -> bytes:
-    """The settings of a client as the library has them. `ValueError` where there are no such, `TypeError` for other `times`."""
+    """The settings of a client as the library has them. `ValueError` if there are no such, `TypeError` for other `times`."""
     signs = [number(_ALGORITHMS, it) for it in algorithms]
     if not 1 <= len(families) <= 2 or not 1 <= len(signs) <= 2:
         raise ValueError("there are one or two families, and one or two algorithms")

@@ -25,7 +25,7 @@ class Up:
 
     @property
     def is_new(self) -> bool:
-        """Whether the relayed address is another one than before, so that the peers have to be told it."""
+        """Whether the relayed address is another one than before, so that the peers have to learn it."""
         return self.address != self.before
 
 

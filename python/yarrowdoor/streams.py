@@ -60,6 +60,7 @@ class PeerTransport(asyncio.Transport):
             self._protocol.connection_lost(error)
 
     def write(self, data: Any) -> None:
+        """Sends data to the peer, in pieces of 64 KiB. Once the stream is closing it is dropped."""
         view = memoryview(data).cast("B")
         if self.is_closing():
             return  # as asyncio's own transports do
@@ -84,6 +85,7 @@ class PeerTransport(asyncio.Transport):
             self.link.close()
 
     def abort(self) -> None:
+        """Closes the data connection at once. What waits to leave is dropped."""
         self._end_lingering()
         self.link.abort()
 
@@ -92,34 +94,44 @@ class PeerTransport(asyncio.Transport):
             self._lingering.cancel()
 
     def is_closing(self) -> bool:
+        """Whether the stream is closing or closed."""
         return self._lingering is not None or self.link.is_over
 
     def pause_reading(self) -> None:
+        """Stops reading: the peer is slowed down when the buffers on the way are full."""
         self.link.transport.pause_reading()
 
     def resume_reading(self) -> None:
+        """Reads again after `pause_reading`."""
         if not self.link.transport.is_closing():
             self.link.transport.resume_reading()
 
     def is_reading(self) -> bool:
+        """Whether data of the peer is read."""
         return bool(self.link.transport.is_reading())
 
     def get_write_buffer_size(self) -> int:
+        """How many bytes wait to leave this host."""
         return int(self.link.transport.get_write_buffer_size())
 
     def set_write_buffer_limits(self, high: Optional[int] = None, low: Optional[int] = None) -> None:
+        """At how many bytes that wait `drain` waits (`high`), and goes on (`low`)."""
         self.link.transport.set_write_buffer_limits(high, low)
 
     def pause_writing(self) -> None:
+        """The buffer of the data connection is full."""
         self._protocol.pause_writing()
 
     def resume_writing(self) -> None:
+        """The buffer of the data connection has room again."""
         self._protocol.resume_writing()
 
     def set_protocol(self, protocol: asyncio.BaseProtocol) -> None:
+        """Raises `NotImplementedError`: the stream keeps its protocol."""
         raise NotImplementedError("the stream keeps its protocol")
 
     def get_protocol(self) -> asyncio.BaseProtocol:
+        """The protocol of the stream."""
         return self._protocol
 
 
@@ -187,7 +199,7 @@ class Streams(LinkUser):
 
     def _close_unwanted(self, peer: Address) -> None:
         """Closes a bound stream if all who asked for it were cancelled. The server keeps one that is not bound for 30 s, and would
-        refuse another CONNECT to this peer so long (RFC 6062, section 5.2), so each is bound first."""
+        refuse another CONNECT to this peer until then (RFC 6062, section 5.2), so each is bound first."""
         stream = self._by_peer.get(peer)
         if stream is not None and stream.is_own and stream.is_bound and not stream.is_taken and not self._callers[peer]:
             stream.close()
@@ -278,6 +290,7 @@ class Streams(LinkUser):
     # The links
 
     def received(self, data: bytes, link: Link) -> None:
+        """What arrived on a data connection."""
         if self._session.over.done():
             return
         answer = self._session.client.recv(data, self._session.clock.now(), remote=link.remote, local=link.local)
@@ -288,11 +301,13 @@ class Streams(LinkUser):
         self._session.drive()
 
     def paused(self, link: Link, is_full: bool) -> None:
+        """A data connection is full, or no longer is."""
         for stream in self._by_peer.values():
             if stream.link is link:
                 return stream.pause_writing() if is_full else stream.resume_writing()
 
     def ended(self, link: Link, error: Optional[Exception]) -> None:
+        """A data connection is closed."""
         is_known = link in self._links
         self._forget(link, error)
         if is_known and not self._session.over.done():

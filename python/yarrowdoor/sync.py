@@ -45,12 +45,21 @@ CLOSE_WAIT = 3.0
 class TurnClient:
     """A relayed address of a TURN server.
 
-    The arguments are as for `yarrowdoor.TurnClient`, but that a function in `credentials` is a plain one, and `timeout` is how many
-    seconds opening may take. Each call may be made in any thread, and in a handler of a signal.
+    Each call may be made in any thread, and in a handler of a signal.
 
     `on_lost`, `on_error`, `on_pause` and `receiver` are called in the thread that keeps the address. They must not block, and of
     this client they may call only what does not wait: `sendto`, `close`, `release`, `keep`, and what there is. Another one is a
     `RuntimeError` there. After a fork the client is the parent's: in the child each call raises `Ended`, and `close` does nothing.
+
+    :param uri: the server's (RFC 7065), as text or parsed: `turn:HOST`, `turn:HOST:PORT?transport=tcp`, `turns:HOST`.
+    :param user: the user name; text is encoded as UTF-8.
+    :param password: the password; text is encoded as UTF-8.
+    :param credentials: in place of user and password both as a pair, or a plain function that returns both: it is called when the
+        client is opened.
+    :param timeout: how many seconds opening may take.
+    :param queue: how many packets of peers may wait to be taken; a further one is dropped and counted.
+    :param receiver: a function that is called with data and peer, in place of the queue.
+    :param settings: further arguments of `yarrowdoor.TurnClient`.
     """
 
     @explained
@@ -137,8 +146,8 @@ class TurnClient:
             thread.call(abort, CLOSE_WAIT)
 
     def wait_closed(self, timeout: Optional[float] = None) -> None:
-        """Waits until the client has ended. `Ended` where it ended by itself, or was not opened; its text says why. `TimeoutError`
-        after so many seconds."""
+        """Waits until the client has ended. `Ended` if it ended by itself, or was not opened; its text says why. `TimeoutError`
+        after that many seconds."""
         try:
             self._thread.call(self._client.wait_closed, timeout)
         except NotAnswered:
@@ -213,7 +222,7 @@ class TurnClient:
         self._do(lambda: self._client.keep(peer))
 
     def check(self) -> Check:
-        """Asks the server for a sign of life, as `yarrowdoor.TurnClient.check`: for up to 3.5 s. `Ended`."""
+        """Asks the server whether it answers, as `yarrowdoor.TurnClient.check`: for up to 3.5 s. `Ended`."""
         return self._call(self._client.check)
 
     def connect(self, peer: AddressLike) -> socket.socket:
@@ -236,7 +245,7 @@ class TurnClient:
     # Data
 
     def send(self, data: Buffer, peer: AddressLike) -> None:
-        """Permits the peer's IP address where needed, and sends. A peer whose permission the server has refused is left alone for
+        """Permits the peer's IP address if needed, and sends. A peer whose permission the server has refused is not asked again for
         five seconds, then for ten, up to 80: until then `PermissionFailed` comes at once. `PermissionFailed`, and what `sendto`
         raises."""
         try:
@@ -249,12 +258,12 @@ class TurnClient:
             self._client.send_in_thread(data, peer)
 
     def sendto(self, data: Buffer, peer: AddressLike) -> None:
-        """Sends data to a peer that has a permission. Where the socket is full it waits for up to 15 s, and drops the data then,
-        which `unsent` counts. `Refused` (`no-permission`), `Ended`; `ValueError` where it is too long."""
+        """Sends data to a peer that has a permission. If the socket is full it waits for up to 15 s, and drops the data then,
+        which `unsent` counts. `Refused` (`no-permission`), `Ended`; `ValueError` if it is too long."""
         self._client.send_in_thread(data, peer)
 
     def receive(self, timeout: Optional[float] = None) -> Tuple[bytes, Address]:
-        """The next data of a peer, and the peer. `TimeoutError` after so many seconds, `Ended` where the client has ended, or was
+        """The next data of a peer, and the peer. `TimeoutError` after that many seconds, `Ended` if the client has ended, or was
         not opened; `RuntimeError` with `receiver=`, which takes all."""
         client = self._client
         if client.inbox.has_receiver:
@@ -269,7 +278,7 @@ class TurnClient:
         return found
 
     def __iter__(self) -> Iterator[Tuple[bytes, Address]]:
-        """The data of peers, until the client is closed. `Ended` where it ends by itself."""
+        """The data of peers, until the client is closed. `Ended` if it ends by itself."""
         try:
             while True:
                 yield self.receive()
@@ -279,7 +288,7 @@ class TurnClient:
 
 
 def _asked(source: Callable[[], Tuple[Text, Text]]) -> Credentials:
-    """What a function gives for credentials. `TypeError` where that is none, as of an async function."""
+    """What a function gives for credentials. `TypeError` if that is none, as of an async function."""
     found = source()
     if inspect.iscoroutine(found):
         found.close()

@@ -50,13 +50,14 @@ class ThreadInbox(Inbox):
             self._came.put((data, peer))
 
     def end(self) -> None:
+        """Nothing more comes: wakes up those that wait."""
         super().end()
         self.is_over = True
         self._came.put(None)
         self.on_end()
 
     def take_in_thread(self, timeout: Optional[float]) -> Optional[Tuple[bytes, Address]]:
-        """The next data, and its peer; None when all is taken and the client has ended. `TimeoutError` after so many seconds."""
+        """The next data, and its peer; None when all is taken and the client has ended. `TimeoutError` after that many seconds."""
         deadline = None if timeout is None else time.monotonic() + timeout
         while True:
             rest = TURN if deadline is None else min(TURN, max(0.0, deadline - time.monotonic()))
@@ -137,7 +138,7 @@ class ThreadClient(TurnClient):
             await self.close()
 
     def check_open(self) -> None:
-        """`Ended` where the client was not opened, has ended, or was opened by the process that this one is a fork of."""
+        """`Ended` if the client was not opened, has ended, or was opened by the process that this one is a fork of."""
         if self.thread.is_forked or self.is_left:
             raise self.ending()
         self._session()
@@ -159,15 +160,17 @@ class ThreadClient(TurnClient):
 
     @property
     def unsent(self) -> int:
+        """How many packets to peers the socket did not take, from any thread."""
         return super().unsent + self._tally.sums()[2]
 
     @property
     def counters(self) -> Counters:
+        """All counts, with what other threads have sent."""
         found, (packets, size, _) = super().counters, self._tally.sums()
         return dataclasses.replace(found, packets_out=found.packets_out + packets, bytes_out=found.bytes_out + size)
 
     def send_in_thread(self, data: Buffer, peer: AddressLike) -> None:
-        """`sendto` in any thread. Where the socket is full it waits for room."""
+        """`sendto` in any thread. If the socket is full it waits for room."""
         session = self._phase
         if not isinstance(session, Session) or session.over.done() or self.thread.is_forked:
             raise self.ending()

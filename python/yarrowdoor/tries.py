@@ -68,7 +68,7 @@ class Watched(TurnClient):
 
     @property
     def link(self) -> Link:
-        """The socket to the server. `Ended` where the client has ended."""
+        """The socket to the server. `Ended` if the client has ended."""
         return self._session().link
 
     @property
@@ -90,7 +90,7 @@ class Watched(TurnClient):
 
     @property
     def heard(self) -> int:
-        """How much has come from the server. `Ended` where the client has ended."""
+        """How much has come from the server. `Ended` if the client has ended."""
         return self._session().count
 
     @property

@@ -26,7 +26,7 @@ from .uri import TurnUri, parse
 
 __all__ = ["Lost", "TurnClient"]
 
-# A datagram over IPv4 carries so many bytes, and coturn reads no longer message of a stream: the connection then hangs.
+# The most bytes that a datagram over IPv4 carries, and coturn reads no longer message of a stream: the connection then hangs.
 MAX_MESSAGE = 65_507
 
 
@@ -43,40 +43,19 @@ class TurnClient(Told, Lifetime):
             async for data, peer in relay:
                 ...
 
-    `uri` is that of the server (RFC 7065), as text or parsed. `relay` is the transport between server and peers: `"udp"`, or
-    `"tcp"` for streams (`connect`, `accept`; RFC 6062), which needs a URI with TCP. `family` is that of the relayed address, 4 or
-    6, or both as `(4, 6)`: then there are up to two, `addresses`, of which the server has to grant one. `ssl` is the context for
-    `turns:` URIs, by default `ssl.create_default_context()`. `times` says how long a request waits for its answer (`Times`). At
-    most `queue` packets of peers wait to be taken; a further one is dropped and counted. With `receiver` there is no queue: it is
-    called with data and peer, in the event loop, and must not block. What it raises goes to the event loop's exception handler.
-    `probe` is how often the path to the server is checked, in seconds: three checks in a row without an answer, nor one to a signed
-    request, end the relay. By default none is made. When nothing was sent for `keepalive` seconds, something is, so that a NAT in
-    between keeps its mapping; with 0 never. Between two requests lies a `pause` in seconds, and permissions and channels are
-    refreshed `refresh_ahead` seconds before they expire. `anonymous` hides the user name (RFC 8489, section 14.4): `"required"`
-    always, `"disabled"` never, and `"auto"` never so far. `max_stale_nonces` is how many challenges in a row are answered. It
-    should be greater than the number of permissions and channels: their refreshes may all be challenged at once, and that of the
-    relayed address too. In place of user and password `credentials` is both, or a function that returns both, async or not: it is
-    called when the client is opened. A peer without data in either direction for `idle` seconds is released, and kept again
-    when there is some; by default none is. If the server names another one (RFC 8489, section 10), that one is asked instead, up
-    to `redirects` times, over TLS with a certificate for the name in `uri`. That answer is unsigned: anyone who sees the first
-    request may send it. `local_addr` and `socket_family` are those of the socket to the server, as asyncio has `local_addr` and
-    `family`. With `sock`, a connected socket over what the URI says, the name is not looked up: the client uses this socket from
-    `open` on, and closes it.
-
     Peers are IP addresses with ports; names are not resolved. What is counted and reported:
 
     - `dropped`: packets of peers that came and were dropped, since `queue` of them were waiting.
     - `unsent`: packets to peers that the socket did not take. Losses further on are not counted.
     - `lost`: the last 1,024 permissions and channels that the server no longer renews, as `Lost`; `on_lost`, if it is set, is
       called with each.
-    - `on_error`, if it is set, is called with each error of a socket over UDP that does not end it, as when a network goes.
+    - `on_error`, if it is set, is called with each error of a socket over UDP that does not end the client, as when a network goes.
 
-    Entering it raises `AllocationFailed` where there is no relayed address, and `WrongCredentials` where it is for user name or
-    password. Both have `code` and `phrase`, what an error response said. `times` limits the wait for each answer. Over TCP and TLS
-    the connection comes before: the system gives up on it after about two minutes, and asyncio on the handshake of TLS after 60 s.
-    `open_timeout` seconds limit it all, and `close_timeout` how long `close` waits for the server. It is used in one event loop.
-    Where the server's name has several addresses, an attempt with the next one begins after 250 ms (RFC 8305), and the first one
-    that answers is used.
+    Entering it raises `AllocationFailed` if there is no relayed address, and `WrongCredentials` if that is because of user name or
+    password. Both have `code` and `phrase`, what an error response said. Over TCP and TLS the connection comes before: the system
+    gives up on it after about two minutes, and asyncio on the handshake of TLS after 60 s. It is used in one event loop. If the
+    server's name has several addresses, an attempt with the next one begins after 250 ms (RFC 8305), and the first one that
+    answers is used.
 
     Over UDP the relay ends when the system refuses several packets in a row. A silent server is reported by `on_lost`, at most
     five minutes after the last renewal of a permission, and `closed` becomes True when the relayed address expires, up to half an
@@ -85,6 +64,40 @@ class TurnClient(Told, Lifetime):
 
     Making it raises `ValueError` or `TypeError`, which says what is wrong; for `anonymous` and `max_stale_nonces`, for an empty
     user, and for a user or password that is too long, opening it does.
+
+    :param uri: the server's (RFC 7065), as text or parsed: `turn:HOST`, `turn:HOST:PORT?transport=tcp`, `turns:HOST`.
+    :param user: the user name; text is encoded as UTF-8.
+    :param password: the password; text is encoded as UTF-8.
+    :param credentials: in place of user and password both as a pair, or a function that returns both, async or not: it is called
+        when the client is opened.
+    :param relay: the transport between server and peers: `"udp"`, or `"tcp"` for streams (`connect`, `accept`; RFC 6062), which
+        needs a URI over TCP or TLS.
+    :param family: that of the relayed address, and so of its peers: 4, 6, or both as `(4, 6)`. Then there are up to two,
+        `addresses`, of which the server has to grant one.
+    :param ssl: the context for `turns:` URIs, by default `ssl.create_default_context()`.
+    :param times: how long a request waits for its response (`Times`), by default 39.5 s in all.
+    :param queue: how many packets of peers may wait to be taken; a further one is dropped and counted.
+    :param receiver: a function that is called with data and peer, in place of the queue. It runs in the event loop, and must not
+        block. What it raises goes to the event loop's exception handler.
+    :param probe: how often the path to the server is checked, in seconds: three checks in a row without an answer, nor one to a
+        signed request, end the relay. None: never.
+    :param keepalive: after this many seconds without a packet one is sent, so that a NAT in between keeps its mapping. 0: never.
+    :param pause: the least time between two requests, in seconds.
+    :param refresh_ahead: how long before its expiry a permission or channel is refreshed, in seconds.
+    :param anonymous: whether the user name is hidden (RFC 8489, section 14.4): `"required"` always, `"disabled"` never, and
+        `"auto"` never so far.
+    :param max_stale_nonces: how many challenges in a row are answered. It should be greater than the number of permissions and
+        channels: their refreshes may all be challenged at once, and that of the relayed address too.
+    :param idle: after how many seconds without data in either direction a peer is released, until there is some again. None: never.
+    :param redirects: how often a server that names another one is followed (RFC 8489, section 10), over TLS with a certificate for
+        the name in `uri`. That answer is unsigned: anyone who sees the first request may send it.
+    :param sock: a connected socket to the server, over what the URI says: the name is not looked up. The client uses it from `open`
+        on, and closes it.
+    :param local_addr: the local address of the socket to the server, as in asyncio.
+    :param socket_family: the family of the socket to the server, which asyncio calls `family`.
+    :param open_timeout: how many seconds opening may take in all. None: no limit.
+    :param close_timeout: how many seconds `close` waits for the server. None: two.
+    :param clock: the clock, for tests.
     """
 
     @explained
@@ -147,7 +160,7 @@ class TurnClient(Told, Lifetime):
     def address(self) -> Address:
         """The relayed address: peers send to it, and see data come from it. It stays readable after the end.
 
-        `Ended` where there never was one.
+        `Ended` if there never was one.
         """
         found = self._phase.address if isinstance(self._phase, Session) else None
         if found is None:
@@ -158,7 +171,7 @@ class TurnClient(Told, Lifetime):
     def addresses(self) -> List[Address]:
         """All relayed addresses: with `family=(4, 6)` one of each family that the server has granted, else only `address`.
 
-        `Ended` where there never was one.
+        `Ended` if there never was one.
         """
         first = self.address
         return [first, *(it for it in self._session().addresses if it != first)]
@@ -180,8 +193,8 @@ class TurnClient(Told, Lifetime):
         """Lets an IP address send to the relayed address, and get data (RFC 8656, section 9). It is renewed until the end, also
         where it was released before.
 
-        Waits for the server's answer. `PermissionFailed`, `Ended`; `ValueError` where it is no IP address; `Refused`
-        (`no-allocation`) where it has another family than the relayed address.
+        Waits for the server's answer. `PermissionFailed`, `Ended`; `ValueError` if it is no IP address; `Refused`
+        (`no-allocation`) if it has another family than the relayed address.
         """
         host, session = checked_ip(ip), self._session()
         self._check_family(host)
@@ -192,8 +205,8 @@ class TurnClient(Told, Lifetime):
     async def bind(self, peer: AddressLike) -> None:
         """Gives a peer a channel, and a permission: its packets then have 4 bytes of header (RFC 8656, section 12).
 
-        Waits for the server's answer. `ChannelFailed`, `PermissionFailed`, `Ended`; `Refused` where the peer's earlier channel is
-        still reserved (`expired`), where all 4,096 numbers are taken (`already-exists`), and where it has another family than the
+        Waits for the server's answer. `ChannelFailed`, `PermissionFailed`, `Ended`; `Refused` if the peer's earlier channel is
+        still reserved (`expired`), if all 4,096 numbers are taken (`already-exists`), and if it has another family than the
         relayed address (`no-allocation`).
         """
         where, session = checked_peer(peer), self._session()
@@ -206,26 +219,26 @@ class TurnClient(Told, Lifetime):
     def release(self, peer: Union[str, AddressLike]) -> None:
         """Lets go what a peer was granted: with an address its channel, with an IP address its permission. It is used as before,
         and refreshed no more, so that it ends after 10 or 5 minutes, which neither `lost` nor `on_lost` reports. `Refused`
-        (`not-granted`) where there is none. Release both, or only the channel if another port uses the permission."""
+        (`not-granted`) if there is none. Release both, or only the channel if another port uses the permission."""
         self._session().grants.set_kept(checked_ip(peer) if isinstance(peer, str) else checked_peer(peer), False)
 
     def keep(self, peer: Union[str, AddressLike]) -> None:
-        """Takes `release` back, while the grant has not ended. `Refused` (`not-granted`) where there is none."""
+        """Takes `release` back, while the grant has not ended. `Refused` (`not-granted`) if there is none."""
         self._session().grants.set_kept(checked_ip(peer) if isinstance(peer, str) else checked_peer(peer), True)
 
     async def check(self) -> Check:
-        """Asks the server for a sign of life, and this client's address as it sees it now: a Binding request (RFC 8489, section 3),
-        which is sent three times over UDP, and is unanswered after 3.5 s. `Ended` where the client has ended."""
+        """Asks the server whether it answers, and this client's address as it sees it now: a Binding request (RFC 8489, section 3),
+        which is sent three times over UDP, and is unanswered after 3.5 s. `Ended` if the client has ended."""
         return await self._session().path.check()
 
     async def send(self, data: Buffer, peer: AddressLike) -> None:
-        """Sends data to a peer: requests its permission first, and waits where the socket is full.
+        """Sends data to a peer: requests its permission first, and waits if the socket is full.
 
-        It does not wait for the data to arrive. Where nothing was received since the last `send`, it lets the event loop do other
-        work first, so that a loop of sends does not keep it from reading. A peer whose permission the server has refused is left
-        alone for five seconds, then for ten, up to 80: until then `PermissionFailed` comes at once. `PermissionFailed`, `Ended`;
-        `Refused` (`no-allocation`) for another family than that of the relayed address; `ValueError` for data that does not fit
-        (`sendto`).
+        It does not wait for the data to arrive. If nothing was received since the last `send`, it lets the event loop do other
+        work first, so that a loop of sends does not keep it from reading. A permission that the server has refused is not
+        requested again for five seconds, then for ten, up to 80: until then `PermissionFailed` comes at once.
+        `PermissionFailed`, `Ended`; `Refused` (`no-allocation`) for another family than that of the relayed address; `ValueError`
+        for data that does not fit (`sendto`).
         """
         session = self._session()
         # Before the data is sent, so that a send that is cancelled is none.
@@ -243,7 +256,7 @@ class TurnClient(Told, Lifetime):
             self.sendto(data, peer)
 
     def sendto(self, data: Buffer, peer: AddressLike) -> None:
-        """Sends data to a peer that has a permission, at once, as a datagram: where the socket is full, it is dropped.
+        """Sends data to a peer that has a permission, at once, as a datagram: if the socket is full, it is dropped.
 
         With its header a message has at most 65,507 bytes. So data has at most 65,500 for a peer with a channel, else 65,468,
         and for an IPv6 peer 65,456. `Refused` (`no-permission`; `no-allocation` for another family than that of the relayed
@@ -286,7 +299,7 @@ class TurnClient(Told, Lifetime):
     async def connect(self, peer: AddressLike) -> Pair:
         """Connects to a peer over TCP, by the server (RFC 6062, section 4.3). It needs `relay="tcp"`.
 
-        `PermissionFailed`, `ConnectFailed`, `Ended`; `Refused` where there is such a connection, or the peer has another family;
+        `PermissionFailed`, `ConnectFailed`, `Ended`; `Refused` if there is such a connection, or the peer has another family;
         `ValueError` with `relay="udp"`.
         """
         self._check_streams("connect")

@@ -40,7 +40,7 @@ class TurnUri:
 def parse(text: str) -> TurnUri:
     """The server that a URI names. Ports are 3478 and 5349, and transports UDP and, for `turns`, TCP, unless it says others.
 
-    `ValueError` where it is no such URI, and for what is not supported: TURN over DTLS, that is `turns` over UDP.
+    `ValueError` if it is no such URI, and for what is not supported: TURN over DTLS, that is `turns` over UDP.
     """
     found = _FORM.fullmatch(text)
     if not found and "@" in text:

@@ -48,7 +48,7 @@ class SilentHandshake(TimeoutError):
 
 
 class Wire:
-    """A socket to the server. `send` and `receive` raise `OSError` where it refuses, and where a stream is broken."""
+    """A socket to the server. `send` and `receive` raise `OSError` if it refuses, and where a stream is broken."""
 
     def __init__(self, sock: Union[socket.socket, tls.SSLSocket], tap: Tap) -> None:
         sock.setblocking(False)
@@ -119,7 +119,7 @@ class Wire:
 
 
 def connect_udp(host: str, port: int, tap: Tap = Tap()) -> Wire:
-    """A socket over UDP to an IP address. `OSError` where there is no way to it."""
+    """A socket over UDP to an IP address. `OSError` if there is no way to it."""
     family, kind, protocol, _, where = socket.getaddrinfo(host, port, type=socket.SOCK_DGRAM, flags=socket.AI_NUMERICHOST)[0]
     sock = socket.socket(family, kind, protocol)
     try:
@@ -133,7 +133,7 @@ def connect_udp(host: str, port: int, tap: Tap = Tap()) -> Wire:
 def connect_stream(host: str, port: int, seconds: float, tap: Tap = Tap(), context: Optional[tls.SSLContext] = None,
                    name: str = "") -> Wire:
     """A connection over TCP to an IP address, or with a context over TLS to a server of this name, within so many seconds.
-    `OSError` where there is none: `ssl.SSLCertVerificationError` where the certificate is the reason, and `SilentHandshake`."""
+    `OSError` if there is none: `ssl.SSLCertVerificationError` if the certificate is the reason, and `SilentHandshake`."""
     sock = socket.create_connection((host, port), seconds)
     try:
         sock.setsockopt(socket.IPPROTO_TCP, socket.TCP_NODELAY, 1)

@@ -10,7 +10,7 @@ _Result = TypeVar("_Result")
 
 
 async def within(work: Awaitable[_Result], seconds: float) -> _Result:
-    """What `work` gives. It is cancelled after so many seconds: `asyncio.TimeoutError`.
+    """What `work` gives. It is cancelled after that many seconds: `asyncio.TimeoutError`.
 
     `asyncio.wait_for` loses a cancellation that comes when the work is done, up to Python 3.11: who was cancelled goes on.
     """

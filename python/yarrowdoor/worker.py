@@ -28,7 +28,7 @@ __all__ = ["Worker"]
 MAX_TAKEN = 64
 # How long the answer to a delete is waited for, in seconds.
 DELETE_WAIT = 2.0
-# A datagram over IPv4 carries so many bytes, and coturn reads no longer message of a stream.
+# The most bytes that a datagram over IPv4 carries, and coturn reads no longer message of a stream.
 MAX_MESSAGE = 65_507
 
 
@@ -250,7 +250,7 @@ class Worker:
         self._waker.close()
 
     def _check(self) -> None:
-        """`Ended` where no call is made any more."""
+        """`Ended` if no call is made any more."""
         if self.is_leaving or self.is_over:
             raise self.ending()
 

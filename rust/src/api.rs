@@ -60,7 +60,7 @@ use std::net::{IpAddr, SocketAddr};
 ///
 /// # Panics
 ///
-/// Each call that takes a time panics where it is not from 0 to 2^62 ns.
+/// Each call that takes a time panics if it is not from 0 to 2^62 ns.
 pub trait TurnClientApi: Debug + Send {
     /// The transport between the client and the server.
     fn transport(&self) -> TransportType;
@@ -129,7 +129,7 @@ pub trait TurnClientApi: Debug + Send {
     fn tcp_connect(&mut self, peer_addr: SocketAddr, now: Instant) -> Result<(), TcpConnectError>;
 
     /// Reports the data connection that [`TurnPollRet::AllocateTcpSocket`] asked for, with the values of that answer, and
-    /// the address of the new socket, or `None` where no connection could be opened.
+    /// the address of the new socket, or `None` if no connection could be opened.
     ///
     /// # Errors
     ///
@@ -161,7 +161,7 @@ pub trait TurnClientApi: Debug + Send {
         now: Instant,
     ) -> Result<Option<TransmitBuild<DelayedMessageOrChannelSend<T>>>, SendError>;
 
-    /// Passes in received bytes: a datagram, or what one read of a stream gave, or nothing where the stream has ended.
+    /// Passes in received bytes: a datagram, or what one read of a stream gave, or nothing if the stream has ended.
     ///
     /// Data of a peer that lies in these bytes is returned as a range of them, without a copy. Over TCP call
     /// [`poll_recv`](Self::poll_recv) afterwards.

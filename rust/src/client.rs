@@ -15,7 +15,7 @@ macro_rules! own_calls {
     ($name:ty, $self:ident, $call:ident => $each:tt) => {
         impl $name {
             /// Says whether the permission for this IP address is kept, as it is at first: refreshed until the allocation ends.
-            /// One that is let go is used until it expires, which the event `PermissionCreateFailed` reports, and it may be
+            /// One that is released is used until it expires, which the event `PermissionCreateFailed` reports, and it may be
             /// kept again until then. A later permission for the address is a new one, and kept. It sends nothing.
             ///
             /// A channel to a peer and the permission for it are two grants: release both, or only the channel if other
@@ -34,7 +34,7 @@ macro_rules! own_calls {
                 $crate::$call!($each, $self, set_permission_kept(transport, peer_addr, is_kept))
             }
 
-            /// Says whether the channel to this peer is kept, as `set_permission_kept` does of a permission. One that is let go
+            /// Says whether the channel to this peer is kept, as `set_permission_kept` does of a permission. One that is released
             /// ends with the event `ChannelCreateFailed`, and its number and its peer are reserved for a while, as always (RFC
             /// 8656, section 12).
             ///
@@ -53,7 +53,7 @@ macro_rules! own_calls {
 
             /// Sends data of `len` bytes to this peer, as `send_to` does, but makes only what stands around the data: what
             /// precedes it and what follows it. The data is sent between them from where it lies, and not copied. Each call is a
-            /// send of its own, with a transaction ID of its own where the peer has no channel.
+            /// send of its own, with a transaction ID of its own if the peer has no channel.
             ///
             /// # Errors
             ///
@@ -73,9 +73,9 @@ macro_rules! own_calls {
             }
 
             /// Gives the client up, for a caller that closes its socket at once: returns the packet that deletes its allocations
-            /// (a REFRESH with a lifetime of 0; RFC 8656, section 8.1), or `None` where the server has granted none, or the
+            /// (a REFRESH with a lifetime of 0; RFC 8656, section 8.1), or `None` if the server has granted none, or the
             /// client has ended. Unlike that of `delete` it waits neither for the pause between requests nor for what is queued,
-            /// and is sent once: where it is lost, or the server asks for another nonce, the relay ends by its lifetime.
+            /// and is sent once: if it is lost, or the server asks for another nonce, the relay ends by its lifetime.
             ///
             /// The client has ended then, and holds no grant. Events that were queued can still be polled.
             ///

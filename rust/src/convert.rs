@@ -110,7 +110,7 @@ fn feature_code(feature: Feature) -> u32 {
     }
 }
 
-/// The number of the element at this place, or 0 where there is none.
+/// The number of the element at this place, or 0 if there is none.
 fn code_at<T: Copy>(list: &[T], place: usize, code: fn(T) -> u32) -> u32 {
     list.get(place).copied().map_or(0, code)
 }

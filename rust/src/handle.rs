@@ -59,7 +59,7 @@ impl Handle {
     }
 
     /// Makes a call, with bytes in, and a buffer for bytes out. It writes to an answer that is all 0, and returns none: a
-    /// copy of so many bytes, right after they were written in parts, would have to wait for them.
+    /// copy of all its bytes, right after they were written in parts, would have to wait for them.
     ///
     /// # Panics
     ///

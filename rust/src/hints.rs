@@ -1,4 +1,4 @@
-//! What the packets of a server say, read beside a client: hints, since nobody has verified them.
+//! What the packets of a server say, read beside a client: hints, which are not verified.
 //!
 //! A client passes over an error response that is not signed, as the 401 to a wrong password, and no event has a code.
 //!
@@ -50,11 +50,11 @@ pub struct Message<'a> {
     pub class: MessageClass,
     /// The transaction ID: that of the request, in a response.
     pub id: [u8; 12],
-    /// ERROR-CODE, where there is one that is not malformed.
+    /// ERROR-CODE, if there is one that is not malformed.
     pub error: Option<ErrorCode<'a>>,
     /// The first REALM.
     pub realm: Option<&'a [u8]>,
-    /// XOR-MAPPED-ADDRESS, the address at which the server sees the client, where there is one that is not malformed.
+    /// XOR-MAPPED-ADDRESS, the address at which the server sees the client, if there is one that is not malformed.
     pub mapped: Option<SocketAddr>,
     /// ALTERNATE-SERVER, likewise.
     pub alternate: Option<SocketAddr>,
@@ -65,7 +65,7 @@ pub struct Message<'a> {
 pub enum MessageClass {
     /// A request.
     Request,
-    /// An indication, to which nobody responds.
+    /// An indication, which has no response.
     Indication,
     /// A success response.
     Success,
@@ -96,7 +96,7 @@ impl fmt::Display for NoFrame {
 impl Error for NoFrame {}
 
 /// Reads the first frame of bytes that came from the server over this transport: a datagram, or what a stream brought. It is
-/// `None` where more bytes are needed, only over TCP.
+/// `None` if more bytes are needed, only over TCP.
 ///
 /// # Errors
 ///

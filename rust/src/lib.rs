@@ -47,7 +47,7 @@
 //! - [`stun`] and [`types`] have only what a caller of a client uses, and nothing that reads or writes messages: [`hints`] reads
 //!   what a server says.
 //! - What a client does differently is in the repository's `docs/DIFFERENCES.md`, under *Behaviour*.
-//! - Where memory allocation fails the process ends, as everywhere in Rust (`std::alloc::handle_alloc_error`).
+//! - If memory allocation fails, the process ends, as everywhere in Rust (`std::alloc::handle_alloc_error`).
 //! - A client is `Send` and `Sync`, by arguments that nothing proves (`handle.rs`): it moves to another thread, and a `&client`,
 //!   with which several threads may look at once, is held across an await.
 

@@ -1,9 +1,9 @@
-//! Bytes that leave nothing in memory that is given back.
+//! Bytes that leave nothing in memory that is freed.
 
 use std::ptr;
 use std::sync::atomic::{compiler_fence, Ordering};
 
-/// Bytes on the heap that are overwritten before they are given back.
+/// Bytes on the heap that are overwritten before they are freed.
 #[derive(Clone, PartialEq, Eq)]
 pub(crate) struct Secret(Box<[u8]>);
 

@@ -103,7 +103,7 @@ pub mod types {
         }
 
         impl Data<'_> {
-            /// The bytes, copied only where they are borrowed.
+            /// The bytes, copied only if they are borrowed.
             #[must_use]
             pub fn into_owned(self) -> Data<'static> {
                 match self {
@@ -142,7 +142,7 @@ pub mod types {
             }
         }
 
-        /// The bytes, copied only where they are borrowed.
+        /// The bytes, copied only if they are borrowed.
         impl From<Data<'_>> for Vec<u8> {
             fn from(data: Data<'_>) -> Vec<u8> {
                 match data {

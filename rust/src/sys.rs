@@ -286,7 +286,7 @@ extern "C" {
 }
 
 unsafe extern "C" {
-    /// 0. What refers to it is linked to a library of this layout alone.
+    /// 0. What refers to it is linked to a library of this layout only.
     safe static yarrowdoor_abi_0: u32;
 
     // Each only reads what the reference leads to.

@@ -20,7 +20,7 @@ pub struct TurnClientUdp {
 impl TurnClientUdp {
     /// A client at this address, which requests relayed addresses from this server. It sends nothing until it is polled.
     ///
-    /// Transaction IDs are drawn from a seed of the system's random numbers.
+    /// Transaction IDs are made from a seed of the system's random numbers.
     ///
     /// # Panics
     ///

@@ -44,7 +44,7 @@ export class Alarm {
 }
 
 /**
- * Waits until so many milliseconds of a clock have passed.
+ * Waits until this many milliseconds of a clock have passed.
  * @param {Clock} clock
  * @param {number} milliseconds
  */

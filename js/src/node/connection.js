@@ -50,7 +50,7 @@ export class Connection {
     }
 
     /**
-     * Takes data of the peer. What a listener throws is thrown where it cannot stop the client.
+     * Takes data of the peer. What a listener throws is thrown if it cannot stop the client.
      * @param {Buffer} data
      */
     feed(data) {

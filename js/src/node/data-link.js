@@ -20,7 +20,7 @@ export class DataLink extends StreamLink {
     }
 
     /**
-     * Sends bytes. `done` is called when the system has them, with an error where it does not take them.
+     * Sends bytes. `done` is called when the system has them, with an error if it does not take them.
      * @param {Uint8Array} data
      * @param {(error?: Error | null) => void} done
      */

@@ -67,7 +67,7 @@ export async function abortable(promise, signal) {
 }
 
 /**
- * Waits for a promise, or for so many milliseconds.
+ * Waits for a promise, or for this many milliseconds.
  * @param {Promise<unknown>} promise
  * @param {number} milliseconds
  */

@@ -1,4 +1,4 @@
-// Why a client has ended, or has no relayed address: what was heard of the server, in words.
+// Why a client has ended, or has no relayed address: what was received from the server, in words.
 import { AllocationFailed, Ended, WrongCredentials } from "../errors.js";
 import { METHOD, isAboutCredentials, isChallenge, lifetimeOf, methodKey } from "./reasons.js";
 
@@ -6,7 +6,7 @@ const ALLOCATE = methodKey(METHOD.ALLOCATE), REFRESH = methodKey(METHOD.REFRESH)
 /** A refresh that grants less has no effect (RFC 8656, section 7.2), in seconds. */
 const MIN_LIFETIME = 600;
 
-/** What was heard of a server, and what it means. */
+/** What was received from a server, and what it means. */
 export class Diagnosis {
     /**
      * The error response that is being handled.
@@ -14,7 +14,7 @@ export class Diagnosis {
      */
     #errorNow;
     /**
-     * The last error of the socket since the server was heard, or the one that has ended it.
+     * The last error of the socket since something was received from the server, or the one that has ended it.
      * @type {unknown}
      */
     socketError;

@@ -1,10 +1,10 @@
-// What a relay publishes on channels of node:diagnostics_channel, for logs and traces. Nothing is made where nobody subscribes.
+// What a relay publishes on channels of node:diagnostics_channel, for logs and traces. Nothing is made if nobody subscribes.
 import diagnostics from "node:diagnostics_channel";
 
 /**
  * Each channel by what happens, and what its subscribers get. Data of peers and passwords are on none of them.
  *
- * - `open` and `end` ({ relay, error }): a relay was opened, or has ended, with an error where it ended by itself.
+ * - `open` and `end` ({ relay, error }): a relay was opened, or has ended, with an error if it ended by itself.
  * - `lost` ({ relay, lost }): the server no longer renews a permission or a channel.
  * - `sendFailed` ({ relay, peer, error }): a `send` has failed, whether somebody waited for it or not.
  * - `sent` and `received` ({ server, data }): a STUN message to the server of this URI, or from it.

@@ -74,7 +74,7 @@ export class Grants {
     }
 
     /**
-     * The same, for data that is to be sent: a peer that was refused is left alone for a while.
+     * The same, for data that is to be sent: a peer that was refused is not asked again for a while.
      * @param {string} ip
      */
     async permitToSend(ip) {
@@ -131,7 +131,7 @@ export class Grants {
     }
 
     /**
-     * The client tells that something is granted.
+     * The client reports that something is granted.
      * @param {Key} key
      */
     created(key) {
@@ -141,7 +141,7 @@ export class Grants {
     }
 
     /**
-     * The client tells that something is refused, or lost. Says whether it is lost since the server did not answer.
+     * The client reports that something is refused, or lost. Says whether it is lost since the server did not answer.
      * @param {Key} key
      */
     failed(key) {

@@ -4,7 +4,7 @@ import { refusal } from "./diagnosis.js";
 import { CHANNELS, publishMessage } from "./diagnostics.js";
 import { Frames, METHOD } from "./reasons.js";
 
-/** What is heard of a server by a session. */
+/** What a session receives from a server. */
 export class Hearing {
     #frames = new Frames();
     #session;

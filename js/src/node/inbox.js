@@ -8,7 +8,7 @@ import { Deferred } from "./deferred.js";
  */
 /** @typedef {[data: Buffer, peer: RemoteInfo]} Packet */
 
-/** A queue of at most so many packets. A further one is dropped, and counted. */
+/** A queue of packets with a limit: a further one is dropped, and counted. */
 export class Inbox {
     /** How many packets were dropped. */
     dropped = 0;

@@ -1,7 +1,7 @@
 // Whether all that a relay was granted can be refreshed before it expires, by what the relay has seen of its timers and its server.
 import { keptGrants } from "../kept.js";
 
-/** Warns once where a relay has more grants than are kept by a caller that is so late, and a server that takes so long. */
+/** Warns once if a relay has more grants than are kept by a caller that is this late, and a server that takes this long. */
 export class Keeping {
     #late = 0;
     #delay = 0;
@@ -21,7 +21,7 @@ export class Keeping {
     }
 
     /**
-     * A timer has come so many milliseconds too late. One that is later than all refreshes take was no timer's fault: the machine slept.
+     * A timer has come this many milliseconds too late. One that is later than all refreshes take was no timer's fault: the machine slept.
      * @param {number} milliseconds
      */
     woke(milliseconds) {
@@ -31,7 +31,7 @@ export class Keeping {
     }
 
     /**
-     * The server has granted something so many milliseconds after it was asked.
+     * The server has granted something this many milliseconds after it was asked.
      * @param {number} milliseconds
      */
     granted(milliseconds) {
@@ -39,7 +39,7 @@ export class Keeping {
     }
 
     /**
-     * The relay has so many grants now.
+     * The relay has this many grants now.
      * @param {number} count
      */
     check(count) {

@@ -6,7 +6,7 @@ import { abortable, Deferred } from "./deferred.js";
 import { Room } from "./room.js";
 
 /**
- * What is told of a link.
+ * What a link reports.
  * @typedef {{ received(data: Buffer): void, refused(error: Error): void, ended(error: Error | undefined): void,
  *     drained(): void }} LinkUser
  */
@@ -34,7 +34,7 @@ function addressOf({ address = "", port = 0 }) {
 }
 
 /**
- * Where a socket over UDP is connected to, or undefined where it is not.
+ * Where a socket over UDP is connected to, or undefined if it is not.
  * @param {import("node:dgram").Socket} socket
  */
 export function remoteOf(socket) {
@@ -140,7 +140,7 @@ export class DatagramLink {
     }
 
     /**
-     * Sends data, or drops it where the socket is full, and says whether it was handed over.
+     * Sends data, or drops it if the socket is full, and says whether it was handed over.
      * @param {Uint8Array} data
      */
     sendData(data) {
@@ -255,7 +255,7 @@ export class StreamLink {
     }
 
     /**
-     * Sends data, or drops it where the socket is full, and says whether it was handed over.
+     * Sends data, or drops it if the socket is full, and says whether it was handed over.
      * @param {Uint8Array} data
      */
     sendData(data) {

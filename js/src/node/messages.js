@@ -35,7 +35,7 @@ export class Messages extends RelayEmitter {
         });
     }
 
-    /** How many packets of peers were dropped, since so many were waiting as `queue` says. */
+    /** How many packets of peers were dropped, since `queue` were waiting. */
     get dropped() {
         return this.#inbox.dropped;
     }
@@ -64,7 +64,7 @@ export class Messages extends RelayEmitter {
     }
 
     /**
-     * Tells data. What a listener throws is thrown where it cannot stop the client.
+     * Passes on data. What a listener throws is thrown if it cannot stop the client.
      * @param {Buffer} data
      * @param {RemoteInfo} peer
      */
@@ -90,7 +90,7 @@ export class Messages extends RelayEmitter {
     }
 
     /**
-     * No more comes: `close`, and `error` before it where it has ended by itself.
+     * No more comes: `close`, and `error` before it if it has ended by itself.
      * @param {import("../errors.js").Ended | undefined} why
      * @protected
      */
@@ -104,7 +104,7 @@ export class Messages extends RelayEmitter {
     }
 
     /**
-     * The data of peers that no listener had, in order. It ends when the relay is closed; `Ended` where it ended by itself.
+     * The data of peers that no listener had, in order. It ends when the relay is closed; `Ended` if it ended by itself.
      * @returns {AsyncGenerator<[data: Buffer, peer: RemoteInfo], void, void>}
      */
     async *[Symbol.asyncIterator]() {

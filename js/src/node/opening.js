@@ -71,7 +71,7 @@ function failureOf(failures) {
 }
 
 /**
- * A session with the server that answers first, or undefined where none does: then the failure of each URI is noted.
+ * A session with the server that answers first, or undefined if none does: then the failure of each URI is noted.
  * @param {Checked} options
  * @param {Library} library
  * @param {TurnUri[]} uris

@@ -6,31 +6,7 @@ import { CLOCK } from "./clock.js";
 import { isUsed, lookupAll } from "./servers.js";
 import { parseUri } from "./uri.js";
 
-/**
- * `urls`, `username` and `credential` are those of WebRTC's RTCIceServer: one URI of RFC 7065 or several. A further one is tried
- * beside those before where these have not answered in 250 ms, and at once where they have failed. URIs of STUN servers are
- * skipped. `family` is that of the relayed address, which reaches peers of this family only. `allocation` is the transport between
- * server and peers: with `"tcp"` (RFC 6062) there are streams in place of datagrams, and URIs over UDP are skipped. `tls` are options of `tls.connect` for
- * `turns:`, as `ca`; certificates are checked unless they say otherwise. `times` is how long a request waits for its answer.
- * `queue` packets of peers wait to be taken where there is no listener for `message`; a further one is dropped and counted. The
- * path to the server is checked every `probe` milliseconds: three checks in a row without an answer, with nothing from the server
- * in between, end the relay; with 0 none is made, as by default over UDP, and 15,000 is the default over TCP and TLS. When nothing
- * was sent for `keepalive` milliseconds, something is, so that a NAT in between keeps its mapping; with 0 never. Between two
- * requests lies a `pause`, and permissions and channels are refreshed `refreshAhead` before they expire, in milliseconds. Sockets
- * to the server have `localAddress`, an IP address, and `localPort`, which `net.connect` names so: with such a port there is one
- * socket at a time. `socket` is a socket of the user, that the relay uses in place of one of its own, and closes: for a URI over
- * UDP one of `dgram`, which it connects unless it is, else a connected one of `net`, over which TLS is begun. `anonymous` hides the
- * user name (RFC 8489, section 14.4). `maxStaleNonces` challenges in a row are answered. `signal` gives up the opening. `library`
- * is the module, by default the one that all share.
- * @typedef {{ readonly urls: string | readonly string[], readonly username: string | Uint8Array,
- *     readonly credential: string | Uint8Array, readonly family?: 4 | 6, readonly allocation?: "udp" | "tcp",
- *     readonly tls?: import("node:tls").ConnectionOptions,
- *     readonly times?: import("../settings.js").Times, readonly queue?: number, readonly probe?: number, readonly keepalive?: number,
- *     readonly pause?: number, readonly refreshAhead?: number, readonly anonymous?: "auto" | "required" | "disabled",
- *     readonly maxStaleNonces?: number, readonly signal?: AbortSignal, readonly localAddress?: string, readonly localPort?: number,
- *     readonly socket?: import("node:dgram").Socket | import("node:net").Socket,
- *     readonly library?: import("../library.js").Library }} RelayOptions
- */
+/** @typedef {import("./relay-options.js").RelayOptions} RelayOptions */
 /**
  * For tests: another clock, and other addresses of names.
  * @typedef {{ readonly clock?: import("./clock.js").Clock, readonly lookup?: (host: string) => Promise<string[]> }} Hooks
@@ -45,7 +21,7 @@ import { parseUri } from "./uri.js";
 const STUN = /^stuns?:/i;
 
 /**
- * A number from `least` on. RangeError where it is none.
+ * A number from `least` on. RangeError if it is none.
  * @param {unknown} value
  * @param {string} name
  * @param {number} least
@@ -58,7 +34,7 @@ function numberFrom(value, name, least) {
 }
 
 /**
- * The options with their defaults. TypeError and RangeError where one is none.
+ * The options with their defaults. TypeError and RangeError if one is none.
  * @param {RelayOptions & Hooks} options
  */
 export function checkOptions({ urls, family = 4, queue = 1_024, probe, keepalive = 15_000, pause = 5, refreshAhead = 150_000, ...rest }) {
@@ -80,7 +56,7 @@ export function checkOptions({ urls, family = 4, queue = 1_024, probe, keepalive
 }
 
 /**
- * The URIs of the servers that can be asked. TypeError where there is none.
+ * The URIs of the servers that can be asked. TypeError if there is none.
  * @param {string[]} list
  * @param {unknown} allocation
  */
@@ -100,7 +76,7 @@ function urisFor(list, allocation) {
 }
 
 /**
- * The own address of the sockets to the server, where the user says it. TypeError where it is no IP address, RangeError where its port
+ * The own address of the sockets to the server, where the user says it. TypeError if it is no IP address, RangeError if its port
  * is none.
  * @param {{ readonly localAddress?: string, readonly localPort?: number }} options
  * @returns {Local}
@@ -113,7 +89,7 @@ function localOf({ localAddress, localPort = 0 }) {
 }
 
 /**
- * The socket of the user. TypeError where it is none for the URI, or has no place beside another URI or an address of its own.
+ * The socket of the user. TypeError if it is none for the URI, or has no place beside another URI or an address of its own.
  * @param {{ readonly socket?: unknown, readonly localAddress?: string, readonly localPort?: number }} options
  * @param {import("./uri.js").TurnUri[]} uris
  */
@@ -137,7 +113,7 @@ function socketOf({ socket, localAddress, localPort }, uris) {
 }
 
 /**
- * An IP address with its family and its canonical text. TypeError where it is none.
+ * An IP address with its family and its canonical text. TypeError if it is none.
  * @param {unknown} ip
  */
 export function ipOf(ip) {
@@ -149,7 +125,7 @@ export function ipOf(ip) {
 }
 
 /**
- * A peer: an IP address, in canonical text (RFC 5952), and a port, or both in an object. TypeError where it is none, RangeError where
+ * A peer: an IP address, in canonical text (RFC 5952), and a port, or both in an object. TypeError if it is none, RangeError where
  * its port is none.
  * @param {unknown} port
  * @param {unknown} address
@@ -168,7 +144,7 @@ export function peerOf(port, address) {
 }
 
 /**
- * Data to send as bytes: several parts make one datagram. TypeError where it is none.
+ * Data to send as bytes: several parts make one datagram. TypeError if it is none.
  * @param {unknown} data
  * @returns {Uint8Array}
  */
@@ -187,7 +163,7 @@ export function dataOf(data) {
 
 /**
  * What `send` is called with, in one of the forms of `dgram`: data, and its offset and length where it is a part; a port and an IP
- * address, or a peer; and a callback or `{ signal }`. TypeError and RangeError where it is none of them.
+ * address, or a peer; and a callback or `{ signal }`. TypeError and RangeError if it is none of them.
  * @param {unknown[]} words
  */
 export function sendWords([data, ...rest]) {

@@ -8,7 +8,7 @@ import { Standing } from "./standing.js";
 /** @typedef {import("../address.js").Address} Address */
 /**
  * What came of a check: whether the server has answered a Binding request (coturn with `--no-stun` never does); this client's address
- * as the server sees it now; and whether it knows the relayed address, or undefined where it has not answered that. False is a server
+ * as the server sees it now; and whether it knows the relayed address, or undefined if it has not answered that. False is a server
  * that was restarted, or one before which a NAT has forgotten the client, as `mapped` says by another address than `mappedAddress()`:
  * the relayed address is lost (RFC 8656, section 3.2), so open a new relay.
  * @typedef {{ isAnswered: boolean, mapped: Address | undefined, isAllocated: boolean | undefined }} Check
@@ -16,7 +16,7 @@ import { Standing } from "./standing.js";
 
 /** How long an answer is waited for, after each time that the request was sent, in milliseconds (RFC 8489, section 6.2.1). */
 const WAITS = Object.freeze([500, 1_000, 2_000]), ALL_WAITS = Object.freeze([3_500]);
-/** So many checks in a row without an answer end the relay, and so many errors in a row, each a second after the last one. */
+/** This many checks in a row without an answer end the relay, and this many errors in a row, each a second after the last one. */
 const RUN = 3, PAUSE = 1_000;
 
 /**
@@ -45,7 +45,7 @@ export class Path {
     }
 
     /**
-     * Asks the server for a sign of life, and whether it knows the relayed address. `Ended` where the client has ended.
+     * Asks the server whether it answers, and whether it knows the relayed address. `Ended` if the client has ended.
      * @returns {Promise<Check>}
      */
     async check() {
@@ -91,7 +91,7 @@ export class Path {
     }
 
     /**
-     * Checks the path by itself, every so many milliseconds. The relay ends when three checks in a row have no answer, with nothing
+     * Checks the path by itself, at an interval in milliseconds. The relay ends when three checks in a row have no answer, with nothing
      * from the server in between. Where one has none, the next one asks for a permission for nobody: each TURN server refuses that,
      * also one that answers no Binding request.
      * @param {number} every
@@ -116,7 +116,7 @@ export class Path {
     }
 
     /**
-     * The socket has told an error. One may pass; several in a row, with nothing from the server between, end the relay.
+     * The socket has reported an error. One may pass; several in a row, with nothing from the server between, end the relay.
      * @param {Error} error
      */
     refused(error) {

@@ -18,9 +18,9 @@ const PIECE = 65_536;
  *
  * There is no half-close, since the server ends both directions at once: after `end` what was written still leaves, and a second after
  * its last byte has left the connection is closed, for reading too. That it has left does not say that the peer has it: let the peer
- * confirm what matters. `destroy` closes at once, and drops what waits. Where the peer or the server closes, both sides end.
+ * confirm what matters. `destroy` closes at once, and drops what waits. If the peer or the server closes, both sides end.
  *
- * `error` is the socket's error (`ECONNRESET` where a peer of coturn closes), or an `Ended` where the relay has ended by itself.
+ * `error` is the socket's error (`ECONNRESET` if a peer of coturn closes), or an `Ended` if the relay has ended by itself.
  */
 export class PeerStream extends Duplex {
     #link;

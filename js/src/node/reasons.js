@@ -66,7 +66,7 @@ export function keyOf(library, message, packet) {
 }
 
 /**
- * The address in a XORed attribute (RFC 8489, section 14.2), or undefined where it is none.
+ * The address in a XORed attribute (RFC 8489, section 14.2), or undefined if it is none.
  * @param {Uint8Array} value
  * @param {Uint8Array} id
  */

@@ -11,7 +11,7 @@ import { Sending } from "./sending.js";
 /** @typedef {import("../address.js").AddressLike} AddressLike */
 /** @typedef {import("./session.js").Session} Session */
 
-/** How often the path is checked over TCP and TLS, in milliseconds: what is dropped there in silence, the system tells too late. */
+/** How often the path is checked over TCP and TLS, in milliseconds: what is dropped there in silence, the system reports too late. */
 const STREAM_PROBE = 15_000;
 /** So many losses are kept. */
 const MOST_LOST = 1_024;
@@ -53,8 +53,8 @@ export class Relay extends Sending {
 
     /**
      * Connects to the server, and waits for a relayed address. TypeError and RangeError for options that are none; AllocationFailed
-     * where there is no relayed address, and WrongCredentials where it is for user name or password; the reason of `signal`, after
-     * which what the server may have granted is given back.
+     * if there is no relayed address, and WrongCredentials if that is for user name or password; the reason of `signal`, after
+     * which what the server may have granted is deleted.
      * @param {import("./options.js").RelayOptions} options
      */
     static async open(options) {
@@ -179,7 +179,7 @@ export class Relay extends Sending {
 
     /**
      * Lets an IP address send to the relayed address, and get data (RFC 8656, section 9). Waits for the server's answer.
-     * PermissionFailed, `Ended`; TypeError where it is no IP address; `Refused` (`no-allocation`) where it has another family than
+     * PermissionFailed, `Ended`; TypeError if it is no IP address; `Refused` (`no-allocation`) if it has another family than
      * the relayed address. A signal gives up the waiting.
      * @param {string} ip
      * @param {{ signal?: AbortSignal }} how
@@ -192,8 +192,8 @@ export class Relay extends Sending {
 
     /**
      * Gives a peer a channel, and a permission: its packets then have 4 bytes of header (RFC 8656, section 12). Waits for the
-     * server's answer. ChannelFailed, PermissionFailed, `Ended`; `Refused` where the peer's earlier channel is still reserved
-     * (`expired`), where all 4,096 numbers are taken (`already-exists`), and where it has another family than the relayed address
+     * server's answer. ChannelFailed, PermissionFailed, `Ended`; `Refused` if the peer's earlier channel is still reserved
+     * (`expired`), if all 4,096 numbers are taken (`already-exists`), and if it has another family than the relayed address
      * (`no-allocation`). A signal gives up the waiting.
      * @param {number | AddressLike} port
      * @param {string} [address]
@@ -208,9 +208,9 @@ export class Relay extends Sending {
 
     /**
      * Has the server connect to a peer over TCP (RFC 6062, section 4.3), which is permitted, and gives the stream to it when it is
-     * connected. TypeError where the relay was not opened with `allocation: "tcp"`. ConnectFailed where the peer or the server refuses
-     * it, or no data connection to the server can be opened; PermissionFailed, `Ended`; `Refused` where there is a stream to this peer,
-     * or one is being opened (`already-exists`), and where it has another family than the relayed address (`no-allocation`). A signal
+     * connected. TypeError if the relay was not opened with `allocation: "tcp"`. ConnectFailed if the peer or the server refuses
+     * it, or no data connection to the server can be opened; PermissionFailed, `Ended`; `Refused` if there is a stream to this peer,
+     * or one is being opened (`already-exists`), and if it has another family than the relayed address (`no-allocation`). A signal
      * gives it up.
      * @param {number | AddressLike} port
      * @param {string} [address]
@@ -225,7 +225,7 @@ export class Relay extends Sending {
 
     /**
      * Lets go what a peer was granted: of an IP address its permission, of a peer its channel. It is used as before, and refreshed
-     * no more, so that it ends after 5 or 10 minutes, which `lost` does not report. `Refused` (`not-granted`) where there is none.
+     * no more, so that it ends after 5 or 10 minutes, which `lost` does not report. `Refused` (`not-granted`) if there is none.
      * @param {string | AddressLike} about
      */
     release(about) {
@@ -233,7 +233,7 @@ export class Relay extends Sending {
     }
 
     /**
-     * Takes `release` back, while the grant has not ended. `Refused` (`not-granted`) where there is none.
+     * Takes `release` back, while the grant has not ended. `Refused` (`not-granted`) if there is none.
      * @param {string | AddressLike} about
      */
     keep(about) {
@@ -241,7 +241,7 @@ export class Relay extends Sending {
     }
 
     /**
-     * Asks the server for a sign of life, and this client's address as it sees it now, by a Binding request (RFC 8489, section 3),
+     * Asks the server whether it answers, and this client's address as it sees it now, by a Binding request (RFC 8489, section 3),
      * which is sent three times over UDP; and whether it knows the relayed address, by a permission for an address that no host has.
      * What is unanswered after 3.5 s is said to be. `Ended`.
      */
@@ -353,7 +353,7 @@ export class Relay extends Sending {
 
     /**
      * Gives the relayed address back, closes the socket, and returns when the server has answered, or after two seconds. A second
-     * time it waits for the first. A callback is called then, too, as with `dgram`. TypeError where it is no function.
+     * time it waits for the first. A callback is called then, too, as with `dgram`. TypeError if it is no function.
      * @param {() => void} [callback]
      */
     async close(callback) {

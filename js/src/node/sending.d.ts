@@ -11,9 +11,9 @@ export type SendCallback = (error: Error | null) => void;
 /** What sends data of a user. */
 export class Sending extends Messages {
     /**
-     * Sends data to a peer: requests its permission first, and waits where the socket is full. It does not wait for the data to
-     * arrive. Where nothing was received since the last call, it lets the program read first. A peer whose permission the server has
-     * refused is left alone for five seconds, then for ten, up to 80: until then PermissionFailed comes at once.
+     * Sends data to a peer: requests its permission first, and waits if the socket is full. It does not wait for the data to
+     * arrive. If nothing was received since the last call, it lets the program read first. A peer whose permission the server has
+     * refused is not asked again for five seconds, then for ten, up to 80: until then PermissionFailed comes at once.
      *
      * TypeError and RangeError are thrown at once. The promise has PermissionFailed, `Ended`, `Refused` (`no-allocation`) for another
      * family than that of the relayed address, RangeError for data that does not fit, and the reason of the signal. Nobody has to

@@ -12,7 +12,7 @@ const STAGGER = 250;
 
 /**
  * The server's IP addresses, in the order in which they are tried: of the family of the own address, where the user says one, and one
- * where the socket is the user's. AllocationFailed where its name has none.
+ * where the socket is the user's. AllocationFailed if its name has none.
  * @param {import("./uri.js").TurnUri} uri
  * @param {import("./options.js").Checked} options
  */
@@ -145,7 +145,7 @@ export class NoneSucceeded extends Error {
  * Attempts one after the other, of addresses or of URIs, each 250 ms after the last one began, or at once where that one has failed;
  * only then where they are to be alone.
  * Gives what the first one found that succeeds; the other attempts are given up, and what one of them finds meanwhile is discarded.
- * NoneSucceeded where all fail.
+ * NoneSucceeded if all fail.
  * @template T, Item
  * @param {Item[]} items
  * @param {(item: Item, signal: AbortSignal) => Promise<T>} attempt
@@ -185,7 +185,7 @@ export async function firstOf(items, attempt, discard, signal, areAlone = false)
 }
 
 /**
- * What is done first, or undefined where the next attempt is to begin.
+ * What is done first, or undefined if the next attempt is to begin.
  * @template T
  * @param {Promise<T>[]} running
  * @param {boolean} isStaggered

@@ -1,4 +1,4 @@
-// One client over one link: it transmits, takes what comes, tells the events, and sets the timer. Its state is one word.
+// One client over one link: it transmits, takes what comes, passes on the events, and sets the timer. Its state is one word.
 import { AllocationFailed, Ended, LibraryError, OutOfMemory, YarrowdoorError } from "../errors.js";
 import { MAX_OVERHEAD } from "../layout.js";
 import { moduleOf } from "../library.js";
@@ -155,7 +155,7 @@ export class Session {
     // Data connections
 
     /**
-     * Passes in what came over a data connection. Where the module has no memory for it, its stream has lost it, and ends.
+     * Passes in what came over a data connection. If the module has no memory for it, its stream has lost it, and ends.
      * @param {import("./connection.js").Connection} connection
      * @param {Buffer} data
      */
@@ -188,7 +188,7 @@ export class Session {
     }
 
     /**
-     * Does something, or ends where the module has stopped.
+     * Does something, or ends if the module has stopped.
      * @param {() => void} what
      */
     #orEnd(what) {
@@ -200,7 +200,7 @@ export class Session {
     }
 
     /**
-     * Ends where the module has stopped. Another error is thrown again.
+     * Ends if the module has stopped. Another error is thrown again.
      * @param {unknown} error
      */
     #stopped(error) {
@@ -243,8 +243,8 @@ export class Session {
     }
 
     /**
-     * Sends data to a peer that has a permission, or drops it where the socket is full, and says whether it was handed over.
-     * RangeError where the message is longer than a datagram.
+     * Sends data to a peer that has a permission, or drops it if the socket is full, and says whether it was handed over.
+     * RangeError if the message is longer than a datagram.
      * @param {Uint8Array} data
      * @param {Address} peer
      */
@@ -415,7 +415,7 @@ export class Session {
     }
 
     /**
-     * Gives the relayed address back by one packet, and ends at once: no answer is waited for. Where the module has no memory for it,
+     * Gives the relayed address back by one packet, and ends at once: no answer is waited for. If the module has no memory for it,
      * the server keeps it until it expires.
      */
     abandon() {
@@ -448,7 +448,7 @@ export class Session {
     }
 
     /**
-     * Closes all, with why it has ended by itself, or undefined where the user has closed it.
+     * Closes all, with why it has ended by itself, or undefined if the user has closed it.
      * @param {Ended | undefined} why
      */
     end(why) {
@@ -467,7 +467,7 @@ export class Session {
         this.user.ended(this, why);
     }
 
-    /** The client, for a call of the user. `Ended` where it has ended, or gives its relayed address back. */
+    /** The client, for a call of the user. `Ended` if it has ended, or gives its relayed address back. */
     usable() {
         if (this.state === "leaving" || this.state === "over") {
             throw this.ending();

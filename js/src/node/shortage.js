@@ -10,7 +10,7 @@ export class Shortage {
     #error;
 
     /**
-     * What a call gives, or undefined where the module has no memory left: the client may have ended then, which its `poll` says.
+     * What a call gives, or undefined if the module has no memory left: the client may have ended then, which its `poll` says.
      * @template T
      * @param {() => T} call
      */

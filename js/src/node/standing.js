@@ -23,7 +23,7 @@ export class Standing {
     }
 
     /**
-     * Whether the server knows the relayed address, or undefined where it does not answer in time, or the client has ended.
+     * Whether the server knows the relayed address, or undefined if it does not answer in time, or the client has ended.
      * @returns {Promise<boolean | undefined>}
      */
     async ask() {

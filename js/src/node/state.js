@@ -1,11 +1,11 @@
-// The state of a session, who is told of it, and who waits for a relayed address.
+// The state of a session, who learns of it, and who waits for a relayed address.
 import { Deferred } from "./deferred.js";
 
 /** @typedef {import("../address.js").Address} Address */
 /** @typedef {import("./session.js").Session} Session */
 /**
- * Who has a session, and is told what happens: data of peers, what is lost, errors of the socket that do not end it, that there is
- * room again, that a peer has connected, and the end: why, or undefined where the user has closed it.
+ * Who has a session, and learns what happens: data of peers, what is lost, errors of the socket that do not end it, that there is
+ * room again, that a peer has connected, and the end: why, or undefined if the user has closed it.
  * @typedef {{ put(data: Buffer, peer: Address): void, offered(of: Session): void, lost(of: Session, lost: import("./grants.js").Lost): void,
  *     socketError(of: Session, error: Error): void, drained(of: Session): void,
  *     ended(of: Session, why: import("../errors.js").Ended | undefined): void }} SessionUser

@@ -223,7 +223,7 @@ export class Streams {
     }
 
     /**
-     * Closes all streams at once, since the client has ended: with an error each where it has ended by itself.
+     * Closes all streams at once, since the client has ended: with an error each if it has ended by itself.
      * @param {() => Error | undefined} error
      */
     end(error) {

@@ -41,20 +41,20 @@ def parser() -> argparse.ArgumentParser:
     _check(add("check", "try all that a server does, and say what is wrong",
                "Tries all that a server does, a line for each, and says what is wrong and what to do."))
     _echo(add("echo", "send packets that come back, and count",
-              "Sends packets by a relayed address to a peer that sends them back, or to a second relayed address, and tells how "
+              "Sends packets by a relayed address to a peer that sends them back, or to a second relayed address, and prints how "
               "many came back, and how soon."))
     _relay(add("relay", "a local UDP port that sends from the relayed address",
                "Packets to a local UDP port leave from the relayed address to a peer. What the peer sends goes to the program that "
                "has sent last."))
     _probe(add("probe", "check again and again, as metrics for Prometheus",
                "Checks each so many seconds, and serves what was found as metrics for Prometheus. A line is "
-               "printed where other steps fail than before."))
+               "printed if other steps fail than before."))
     _load(add("load", "many relayed addresses at one time, and packets through them",
               "Asks for relayed addresses until one is refused, sends packets between each two of them, "
-              "holds them, and gives all back."))
+              "holds them, and deletes all."))
     _bench(add("bench", "packets a second, loss, and processor time",
                "Sends as many packets as come back, by a relayed address to a peer that sends them back, or to a second relayed "
-               "address, and tells how many a second that are."))
+               "address, and prints how many a second that are."))
     return top
 
 
@@ -120,8 +120,8 @@ def _common(command: argparse.ArgumentParser) -> None:
     command.add_argument("--ask-secret", action="store_true", help="ask for the shared secret on the terminal")
     command.add_argument("--ca", metavar="FILE", help="a certificate that is trusted for turns:")
     family = command.add_mutually_exclusive_group()
-    family.add_argument("-4", dest="family", action="store_const", const=4, help="reach the server over IPv4 alone")
-    family.add_argument("-6", dest="family", action="store_const", const=6, help="reach the server over IPv6 alone")
+    family.add_argument("-4", dest="family", action="store_const", const=4, help="reach the server over IPv4 only")
+    family.add_argument("-6", dest="family", action="store_const", const=6, help="reach the server over IPv6 only")
     command.add_argument("--timeout", type=_seconds, default=1.5, metavar="S", help="the longest wait for an answer (1.5)")
     command.add_argument("--json", action="store_true", help="print one JSON object")
     command.add_argument("--pcap", metavar="FILE", help="write what is sent and received, for Wireshark")

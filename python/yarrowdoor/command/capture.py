@@ -42,19 +42,23 @@ class Capture(Tap):
         self._file.close()
 
     def datagram(self, source: Where, destination: Where, data: bytes, now: float) -> None:
+        """Writes a datagram, with an IP header and one of UDP."""
         ends = _Ends(source, destination)
         head = struct.pack("!HHHH", ends.ports[0], ends.ports[1], 8 + len(data), 0)
         self._write(ends, _UDP, head, 6, data, now)
 
     def opened(self, local: Where, remote: Where, now: float) -> None:
+        """Writes the three segments that open a connection."""
         for source, destination, flags in ((local, remote, _SYN), (remote, local, _SYN | _ACK), (local, remote, _ACK)):
             self._segment(source, destination, b"", flags, now)
 
     def piece(self, source: Where, destination: Where, data: bytes, now: float) -> None:
+        """Writes a piece of a stream, in segments that fit an IP packet."""
         for start in range(0, len(data), _MAX_PIECE):
             self._segment(source, destination, data[start:start + _MAX_PIECE], _PUSH | _ACK, now)
 
     def ended(self, source: Where, destination: Where, now: float) -> None:
+        """Writes the segment that ends one direction of a connection."""
         self._segment(source, destination, b"", _FIN | _ACK, now)
 
     def _segment(self, source: Where, destination: Where, data: bytes, flags: int, now: float) -> None:

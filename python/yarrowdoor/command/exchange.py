@@ -134,6 +134,7 @@ class Exchange(Worker):
     # What happens
 
     def heard(self, message: reasons.Message, packet: bytes, is_ignored: bool) -> None:
+        """Counts and logs the response to a request: how long it took, and stale nonces."""
         super().heard(message, packet, is_ignored)
         request, now = self._requests.get(message.transaction), time.monotonic()
         if request is None:
@@ -158,6 +159,7 @@ class Exchange(Worker):
             self.lifetime = _seconds(reasons.attribute(packet, reasons.LIFETIME))
 
     def sent(self, packet: bytes) -> None:
+        """Remembers a request that was sent for the first time, and logs it."""
         super().sent(packet)
         message = reasons.read(packet)
         if message is not None and message.is_request and message.transaction not in self._requests:
@@ -173,9 +175,11 @@ class Exchange(Worker):
         request.is_late = request.is_late or took > 1.5 * self.shortest + _AGAIN
 
     def refused(self, error: OSError) -> None:
+        """Logs an error of the socket."""
         log.info("%s: %s", self.wire.local, error)
 
     def told(self, event: Event) -> None:
+        """Logs an event of the client."""
         log.info("%s: %s", self.wire.local, event)
 
 

@@ -77,6 +77,7 @@ class TextOutput(Output):
         self._has_colour = self._is_terminal and "NO_COLOR" not in os.environ and os.environ.get("TERM") != "dumb"
 
     def add(self, step: Step) -> None:
+        """Prints the line of a step, and what is to be done below it."""
         super().add(step)
         step = self.steps[-1]
         if self._bar is not None:
@@ -94,6 +95,7 @@ class TextOutput(Output):
         self._file.flush()
 
     def end(self) -> int:
+        """Prints what fails or cannot be tried, and returns the exit status."""
         failed = [it.name for it in self.steps if it.outcome is Outcome.FAILED]
         status = super().end()
         if failed:
@@ -104,6 +106,7 @@ class TextOutput(Output):
         return status
 
     def bar(self, what: str, count: int) -> Bar:
+        """Shows how far something is, if this is a terminal."""
         self._bar = Bar(sys.stderr, self._is_terminal, what, count)
         return self._bar
 
@@ -123,9 +126,11 @@ class JsonOutput(Output):
         self._uri = uri
 
     def end(self) -> int:
+        """Prints the object, and returns the exit status."""
         return self._print(super().end())
 
     def fail(self, why: str, status: int) -> int:
+        """Prints the object with the steps so far and the error, and returns the exit status."""
         return self._print(status, error=why)
 
     def _print(self, status: int, **more: str) -> int:

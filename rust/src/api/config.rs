@@ -41,7 +41,7 @@ pub(crate) struct Retransmits {
     pub(crate) last: u64,
 }
 
-/// Adds an element where the list has it not yet.
+/// Adds an element if the list does not have it yet.
 fn add<T: PartialEq>(list: &mut Vec<T>, element: T) {
     if !list.contains(&element) {
         list.push(element);
@@ -244,7 +244,7 @@ impl TurnConfig {
         self.keepalive = keepalive.map(|wait| wait.max(LEAST));
     }
 
-    /// After how long without a packet the client keeps its path to the server alive, or `None` where it never does.
+    /// After how long without a packet the client keeps its path to the server alive, or `None` if it never does.
     #[must_use]
     pub fn keepalive(&self) -> Option<Duration> {
         self.keepalive

@@ -67,7 +67,7 @@ error! {
 }
 
 error! {
-    /// Why a permission or a channel is neither kept nor let go.
+    /// Why a permission or a channel is neither kept nor released.
     KeepError {
         /// The peer has no permission, or no channel, that is pending or active, or the allocations do not relay over this
         /// transport.

@@ -27,8 +27,8 @@ pub enum TurnPollRet {
         /// The end of the server.
         remote_addr: SocketAddr,
     },
-    /// The client has ended. Events may be left: where nobody answered (by default 39.5 s after the start) one for each
-    /// family, and none where the password is wrong (39.5 s after the challenge).
+    /// The client has ended. Events may be left: if nothing was answered (by default 39.5 s after the start) one for each
+    /// family, and none if the password is wrong (39.5 s after the challenge).
     Closed,
 }
 

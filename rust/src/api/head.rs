@@ -16,7 +16,7 @@ pub struct PacketHead {
 }
 
 impl PacketHead {
-    /// The first `len` bytes, and so many zeros behind the data, at most three.
+    /// The first `len` bytes, and the zeros behind the data, at most three.
     pub(crate) fn new(bytes: [u8; MAX_OVERHEAD], len: usize, padding: usize) -> PacketHead {
         PacketHead {
             bytes,

@@ -32,10 +32,10 @@ impl From<Load> for sys::Load {
 }
 
 impl TurnConfig {
-    /// How many grants a client with this configuration keeps beside this load: none of so many is lost where the server answers,
-    /// and one more may be. It is 0 where there is room for none, and `u64::MAX` where there is no pause and the caller is never
+    /// How many grants a client with this configuration keeps beside this load: none of that many is lost if the server answers,
+    /// and one more may be. It is 0 if there is room for none, and `u64::MAX` if there is no pause and the caller is never
     /// late. A permission lasts 300 s and is refreshed after half of that at the earliest, so more than 150 s of
-    /// [`refresh_ahead`](Self::refresh_ahead) count as 150 s. Where the server grants an allocation for less than 300 s, set half
+    /// [`refresh_ahead`](Self::refresh_ahead) count as 150 s. If the server grants an allocation for less than 300 s, set half
     /// of that.
     ///
     /// # Examples
@@ -61,8 +61,8 @@ impl TurnConfig {
         sys::yarrowdoor_kept_grants(&load.into(), cadence_code(cadence), nanos_of(ahead))
     }
 
-    /// The longest [`request_cadence`](Self::request_cadence) at which so many grants are kept beside this load, each refreshed by
-    /// the [`refresh_ahead`](Self::refresh_ahead) of this configuration. `None` where they are too many for any. No grant is taken
+    /// The longest [`request_cadence`](Self::request_cadence) at which `count` grants are kept beside this load, each refreshed by
+    /// the [`refresh_ahead`](Self::refresh_ahead) of this configuration. `None` if they are too many for any. No grant is taken
     /// as one.
     #[must_use]
     pub fn longest_cadence(&self, load: Load, count: u64) -> Option<Duration> {

@@ -43,7 +43,7 @@ pub struct TurnPeerData<T: AsRef<[u8]> + Debug> {
 }
 
 impl<T: AsRef<[u8]> + Debug> TurnPeerData<T> {
-    /// The same with bytes of its own, which are copied only where they are a range of others.
+    /// The same with bytes of its own, which are copied only if they are a range of others.
     pub fn into_owned<R: AsRef<[u8]> + Debug>(self) -> TurnPeerData<R> {
         TurnPeerData {
             data: self.data.into_owned(),
@@ -64,7 +64,7 @@ impl<T: AsRef<[u8]> + Debug> AsRef<[u8]> for TurnPeerData<T> {
     }
 }
 
-/// The data, copied only where it is a range of other bytes.
+/// The data, copied only if it is a range of other bytes.
 impl<T: AsRef<[u8]> + Debug> From<TurnPeerData<T>> for Vec<u8> {
     fn from(peer_data: TurnPeerData<T>) -> Vec<u8> {
         match peer_data.data {

@@ -7,7 +7,7 @@ use std::ops::Range;
 /// The packet that carries data to a peer.
 ///
 /// The client of this package builds it in the call: [`build`](DelayedTransmitBuild::build) returns those bytes without a copy.
-/// It is a `Channel` or a `Message` where the allocation relays over UDP, and `Data` where it relays over TCP.
+/// It is a `Channel` or a `Message` if the allocation relays over UDP, and `Data` if it relays over TCP.
 #[derive(Debug)]
 pub enum DelayedMessageOrChannelSend<T: AsRef<[u8]> + Debug> {
     /// A `ChannelData` message (RFC 8656, section 12.4), since the peer has a channel.

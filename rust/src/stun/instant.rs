@@ -47,7 +47,7 @@ impl Instant {
         Instant::ZERO + base.elapsed()
     }
 
-    /// This time on the system's clock, where this clock started at `base`.
+    /// This time on the system's clock, if this clock started at `base`.
     #[must_use]
     pub fn to_std(self, base: std::time::Instant) -> std::time::Instant {
         base + self.saturating_duration_since(Instant::ZERO)

@@ -47,7 +47,7 @@ impl TurnCredentials {
     ///
     /// # Panics
     ///
-    /// Where [`TurnCredentials::try_new`] returns an error.
+    /// If [`TurnCredentials::try_new`] returns an error.
     pub fn new(username: impl AsRef<[u8]>, password: impl AsRef<[u8]>) -> TurnCredentials {
         TurnCredentials::try_new(username, password).unwrap_or_else(|error| panic!("{error}"))
     }
