@@ -8,14 +8,6 @@ check_without_library() {
     done
 }
 
-# The package and the examples pass clippy's lints, pedantic ones too, without a library.
-check_lints() {
-    for manifest in rust examples/rust; do
-        YARROWDOOR_DIST=$room/none cargo clippy --offline --all-targets --manifest-path "$manifest/Cargo.toml" -- \
-            -W clippy::pedantic -D warnings
-    done
-}
-
 # A program for the original crate, in which one line was changed. Its first request has 40 bytes.
 run_renamed() {
     [ "$(cargo run --offline --manifest-path "$tests/renamed/Cargo.toml")" = 40 ]
@@ -57,9 +49,6 @@ test_tokio() {
 test_rust() {
     export CARGO_TARGET_DIR=$room/target YARROWDOOR_DIST=$dist
     step "cargo check and doc, without a library" check_without_library
-    if has cargo-clippy "clippy's lints"; then
-        step "cargo clippy, pedantic" check_lints
-    fi
     step "cargo test: the package and its documentation" cargo test --offline --manifest-path rust/Cargo.toml
     step "cargo build: the programs" cargo build --offline --manifest-path rust/Cargo.toml --release --example replay
     step "a program for the original crate" run_renamed

@@ -59,7 +59,8 @@ async function openBare(library) {
     const sockets = [], createSocket = dgram.createSocket;
     dgram.createSocket = (...words) => sockets[sockets.push(createSocket(...words)) - 1];
     const relay = await open(library);
-    dgram.createSocket = createSocket;
+    // eslint-disable-next-line require-atomic-updates
+    dgram.createSocket = createSocket; // nothing else opens a relay meanwhile
     sockets[0].removeAllListeners("message");
     return { relay, socket: sockets[0] };
 }

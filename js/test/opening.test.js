@@ -6,7 +6,7 @@ import { interleaved } from "../src/node/servers.js";
 import { parseUri } from "../src/node/uri.js";
 import { library } from "./module.js";
 import { endsWithin, openRelay, tcp, udp, until, urlOf, withServer } from "./relays.js";
-import { PASSWORD, RELAYED, Server, USER } from "./server.js";
+import { RELAYED, Server } from "./server.js";
 import { METHOD } from "./stun.js";
 
 const PEER = { address: "127.0.0.1", port: 3480 };
