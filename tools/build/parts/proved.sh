@@ -15,11 +15,6 @@ over_gate() {
         --crate-type staticlib --target "$1" --cpu "$cpu" --toolchain "$2" --backend llvm -o "$3"
 }
 
-# Whether the gate was run, and no source of a crate has changed since.
-is_left() {
-    [ -n "$gate" ] && [ -z "$(find "$top"/crates/*/{src,specs,proofs} -newer "$gate" -print -quit 2> /dev/null)" ]
-}
-
 # Runs a command, and where it fails prints what it said, and ends.
 shown() {
     "$@" > "$room/rt.log" 2>&1 || { cat "$room/rt.log" >&2; exit 1; }
@@ -30,7 +25,7 @@ prove() {
     mkdir -p out
     rm -f out/libturn_c.a
     if [ "$target" = x86_64-windows ]; then
-        is_left || shown rt lib --cpu "$cpu"
+        is_left || { announce_proofs; shown rt lib --cpu "$cpu"; }
         prove_for_windows
     elif ! is_left; then
         prove_anew
@@ -43,6 +38,7 @@ prove() {
 }
 
 prove_anew() {
+    announce_proofs
     shown rt lib --target "$triple" --cpu "$cpu"
     mv out/libturn_c.a "$room/proved.a"
 }
