@@ -27,6 +27,14 @@ class Coturn(NamedTuple):
         return form.format(port=self.port, tls_port=self.tls_port)
 
 
+def has_ipv6() -> bool:
+    """Whether this host has a loopback address of IPv6."""
+    with contextlib.suppress(OSError), socket.socket(socket.AF_INET6, socket.SOCK_DGRAM) as it:
+        it.bind(("::1", 0))
+        return True
+    return False
+
+
 def free_port() -> int:
     """A port that nothing uses just now, over UDP and TCP."""
     while True:

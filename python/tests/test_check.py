@@ -116,16 +116,8 @@ class Dropped(unittest.TestCase):
         self.assertEqual(steps["payload"]["facts"]["bytes"], 1500)  # A longer one would end some servers over TCP.
 
 
-def has_ipv6() -> bool:
-    """Whether this host has a loopback address of IPv6."""
-    with contextlib.suppress(OSError), socket.socket(socket.AF_INET6, socket.SOCK_DGRAM) as it:
-        it.bind(("::1", 0))
-        return True
-    return False
-
-
 @unittest.skipUnless(coturn.IS_HERE, coturn.WHY)
-@unittest.skipUnless(has_ipv6(), "this host has no IPv6")
+@unittest.skipUnless(coturn.has_ipv6(), "this host has no IPv6")
 class Families(unittest.TestCase):
     def test_a_server_with_ipv6_alone(self) -> None:
         with coturn.coturn(host="::1") as server:

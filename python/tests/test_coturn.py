@@ -235,9 +235,7 @@ class Coturn(unittest.IsolatedAsyncioTestCase):
                     await asyncio.sleep(0.05)
             self.assertEqual(len(opened), 1)
             self.assertEqual(relay._session().streams._accepted.qsize(), 0)
-            reader, writer = await asyncio.wait_for(relay.connect(peer), 10)
-            writer.write(b"hello")
-            self.assertEqual(await asyncio.wait_for(reader.readexactly(5), 5), b"hello")
+            await self.check_connects(relay, peer)
 
     async def test_a_connect_that_is_cancelled_before_or_as_it_is_answered(self) -> None:
         peers = await asyncio.start_server(echo_stream, "127.0.0.1", 0)
@@ -260,9 +258,13 @@ class Coturn(unittest.IsolatedAsyncioTestCase):
                 with self.assertRaises(asyncio.CancelledError):
                     await asyncio.wait_for(connecting, 10)
             await asyncio.sleep(0.5)
-            reader, writer = await asyncio.wait_for(relay.connect(peer), 10)
-            writer.write(b"hello")
-            self.assertEqual(await asyncio.wait_for(reader.readexactly(5), 5), b"hello")
+            await self.check_connects(relay, peer)
+
+    async def check_connects(self, relay: TurnClient, peer: Any) -> None:
+        """The next connection to the peer, which sends back what it gets, is made and used."""
+        reader, writer = await asyncio.wait_for(relay.connect(peer), 10)
+        writer.write(b"hello")
+        self.assertEqual(await asyncio.wait_for(reader.readexactly(5), 5), b"hello")
 
     async def test_a_name_that_leads_elsewhere_later(self) -> None:
         peers = await asyncio.start_server(echo_stream, "127.0.0.1", 0)
@@ -287,15 +289,8 @@ class Coturn(unittest.IsolatedAsyncioTestCase):
             self.assertEqual(await asyncio.wait_for(one.receive(), 5), (b"answer", other.address))
 
 
-def has_ipv6() -> bool:
-    with contextlib.suppress(OSError), socket.socket(socket.AF_INET6, socket.SOCK_DGRAM) as sock:
-        sock.bind(("::1", 0))
-        return True
-    return False
-
-
 @unittest.skipUnless(server.IS_HERE, server.WHY)
-@unittest.skipUnless(has_ipv6(), "this host has no IPv6 address")
+@unittest.skipUnless(server.has_ipv6(), "this host has no IPv6 address")
 class Ipv6(unittest.IsolatedAsyncioTestCase):
     async def test_a_server_and_a_peer(self) -> None:
         loop = asyncio.get_running_loop()

@@ -53,33 +53,31 @@ class Signals(unittest.TestCase):
         with self.assertRaises(Ended):
             relay.sendto(b"x", PEER)
 
-    def test_a_handler_that_closes(self) -> None:
+    def check_steps(self, interrupt_at: Callable[[sync.TurnClient, Callable[[], object], int], bool]) -> None:
+        """Has each call interrupted at one step after the other. `interrupt_at` says whether the call has so many steps."""
         for name, call in CALLS.items():
             step, has_run = 0, True
             while has_run:
                 relay = self.relay()
                 start = time.monotonic()
                 with self.subTest(call=name, step=step):
-                    has_run = interrupt(lambda: call(relay), step, FILES, relay.close)
+                    has_run = interrupt_at(relay, lambda: call(relay), step)
                     relay.close()
                     self.check_given_back(relay, start)
                 step += STRIDE
             self.assertGreater(step, 50)
 
+    def test_a_handler_that_closes(self) -> None:
+        self.check_steps(lambda relay, call, step: interrupt(call, step, FILES, relay.close))
+
     def test_a_handler_that_raises(self) -> None:
-        for name, call in CALLS.items():
-            step, has_run = 0, True
-            while has_run:
-                relay = self.relay()
-                start = time.monotonic()
-                with self.subTest(call=name, step=step):
-                    has_run = interrupted(lambda: call(relay), step, FILES)
-                    relay.sendto(b"x", PEER)
-                    relay.check()
-                    relay.close()
-                    self.check_given_back(relay, start)
-                step += STRIDE
-            self.assertGreater(step, 50)
+        def raises(relay: sync.TurnClient, call: Callable[[], object], step: int) -> bool:
+            has_run = interrupted(call, step, FILES)
+            relay.sendto(b"x", PEER)
+            relay.check()
+            return has_run
+
+        self.check_steps(raises)
 
     def test_opening_that_is_interrupted(self) -> None:
         step = 0

@@ -13,7 +13,6 @@ from yarrowdoor.uri import parse
 from yarrowdoor.wire import Tap
 
 from . import coturn
-from .test_check import has_ipv6
 from .test_command import command
 from .threaded import Ipv4Server, Threaded
 from .turn_servers import coturn as started, limit
@@ -60,7 +59,7 @@ class OneTransport(unittest.TestCase):
 
 @unittest.skipUnless(coturn.IS_HERE, coturn.WHY)
 class Coturn(unittest.TestCase):
-    @unittest.skipUnless(has_ipv6(), "this host has no IPv6")
+    @unittest.skipUnless(coturn.has_ipv6(), "this host has no IPv6")
     def test_all_ways_and_families(self) -> None:
         with coturn.coturn("-L", "::1", "-E", "127.0.0.1", "-E", "::1") as server:
             words = ("--ca", server.certificate) if server.certificate else ()
