@@ -2,11 +2,11 @@
 
 mod server;
 
-use server::{allocate, at, grant, next};
+use server::{allocate, at, config, grant, new_client, next};
 use std::net::SocketAddr;
-use yarrowdoor::api::{CreatePermissionError, TurnConfig, TurnPollRet};
+use yarrowdoor::api::{CreatePermissionError, TurnPollRet};
 use yarrowdoor::prelude::*;
-use yarrowdoor::types::{TransportType, TurnCredentials};
+use yarrowdoor::types::TransportType;
 use yarrowdoor::udp::TurnClientUdp;
 
 const UDP: TransportType = TransportType::Udp;
@@ -14,22 +14,13 @@ const UDP: TransportType = TransportType::Udp;
 /// A REFRESH whose first attribute is a LIFETIME of 0 (RFC 8656, sections 7.2 and 18.2).
 const LIFETIME_OF_0: [u8; 8] = [0, 13, 0, 4, 0, 0, 0, 0];
 
-fn new_client() -> TurnClientUdp {
-    let (local, remote) = (
-        "10.0.0.1:4000".parse().unwrap(),
-        "10.0.0.9:3478".parse().unwrap(),
-    );
-    let config = TurnConfig::new(TurnCredentials::new("user", "pass"));
-    TurnClientUdp::allocate_with_seed(local, remote, config, [0; 32])
-}
-
 fn peer() -> SocketAddr {
     "10.0.0.7:9000".parse().unwrap()
 }
 
 #[test]
 fn the_refresh_leaves_before_what_is_queued() {
-    let mut client = new_client();
+    let mut client = new_client(config());
     allocate(&mut client);
     client.create_permission(UDP, peer().ip(), at(2)).unwrap();
     let request = next(&mut client, at(2)).unwrap();
@@ -50,10 +41,10 @@ fn the_refresh_leaves_before_what_is_queued() {
 
 #[test]
 fn without_an_allocation_there_is_nothing_to_send() {
-    let mut client = new_client();
+    let mut client = new_client(config());
     assert!(client.abandon(at(1)).is_none());
     has_ended(&mut client);
-    let mut client = new_client();
+    let mut client = new_client(config());
     assert_eq!(next(&mut client, at(1)).unwrap().kind, server::ALLOCATE);
     assert!(client.abandon(at(1)).is_none());
     has_ended(&mut client);

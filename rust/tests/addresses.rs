@@ -4,10 +4,10 @@ mod server;
 
 use server::{answer, at, challenge, next, Sent};
 use std::net::{Ipv6Addr, SocketAddr, SocketAddrV6};
-use yarrowdoor::api::{TurnConfig, TurnRecvRet};
+use yarrowdoor::api::TurnRecvRet;
 use yarrowdoor::prelude::*;
 use yarrowdoor::tcp::TurnClientTcp;
-use yarrowdoor::types::{AddressFamily, TransportType, TurnCredentials};
+use yarrowdoor::types::{AddressFamily, TransportType};
 use yarrowdoor::udp::TurnClientUdp;
 
 const LOCAL: Ipv6Addr = Ipv6Addr::new(0xfe80, 0, 0, 0, 0, 0, 0, 1);
@@ -15,7 +15,7 @@ const SERVER: Ipv6Addr = Ipv6Addr::new(0xfe80, 0, 0, 0, 0, 0, 0, 2);
 
 /// A client whose own address and whose server's have these flows and scopes.
 fn client(flows: (u32, u32), scopes: (u32, u32)) -> TurnClientUdp {
-    let mut config = TurnConfig::new(TurnCredentials::new("user", "pass"));
+    let mut config = server::config();
     config.set_address_family(AddressFamily::IPV6);
     let local = SocketAddrV6::new(LOCAL, 4000, flows.0, scopes.0);
     let remote = SocketAddrV6::new(SERVER, 3478, flows.1, scopes.1);
@@ -63,11 +63,7 @@ fn a_packet_of_another_flow_or_scope_is_not_the_servers() {
 
 #[test]
 fn a_relayed_address_is_as_the_server_wrote_it() {
-    let (local, remote) = (
-        "10.0.0.1:4000".parse().unwrap(),
-        "10.0.0.9:3478".parse().unwrap(),
-    );
-    let config = TurnConfig::new(TurnCredentials::new("user", "pass"));
+    let ((local, remote), config) = (server::addresses(), server::config());
     let mut client = TurnClientTcp::allocate_with_seed(local, remote, config, [0; 32]);
     server::allocate(&mut client);
     let relayed: Vec<_> = client.relayed_addresses().collect();

@@ -2,14 +2,13 @@
 
 mod server;
 
-use server::{allocate, at, grant, next};
+use server::{addresses, allocated, at, grant, next};
 use std::borrow::Cow;
 use std::io;
 use std::net::{IpAddr, SocketAddr};
-use yarrowdoor::api::{Data, DeleteError, Transmit, TurnConfig, TurnRecvRet};
+use yarrowdoor::api::{Data, DeleteError, Transmit, TurnRecvRet};
 use yarrowdoor::prelude::*;
-use yarrowdoor::types::{AddressFamily, TransportType, TurnCredentials};
-use yarrowdoor::udp::TurnClientUdp;
+use yarrowdoor::types::{AddressFamily, TransportType};
 
 #[test]
 fn an_address_has_its_family() {
@@ -46,13 +45,7 @@ fn an_error_goes_into_one_of_io() {
 
 #[test]
 fn data_of_a_peer_goes_into_a_vector() {
-    let (local, remote) = (
-        "10.0.0.1:4000".parse().unwrap(),
-        "10.0.0.9:3478".parse().unwrap(),
-    );
-    let config = TurnConfig::new(TurnCredentials::new("user", "pass"));
-    let mut client = TurnClientUdp::allocate_with_seed(local, remote, config, [0; 32]);
-    allocate(&mut client);
+    let ((local, remote), mut client) = (addresses(), allocated());
     let peer = SocketAddr::new(IpAddr::from([10, 0, 0, 7]), 9000);
     client
         .bind_channel(TransportType::Udp, peer, at(2))

@@ -2,11 +2,9 @@
 
 mod server;
 
-use server::{allocation, at, challenge, next, success};
-use yarrowdoor::api::TurnConfig;
+use server::{allocation, at, challenge, config, new_client, next, success};
 use yarrowdoor::hints::{self, Frame, MessageClass, NoFrame};
-use yarrowdoor::types::{TransportType, TurnCredentials};
-use yarrowdoor::udp::TurnClientUdp;
+use yarrowdoor::types::TransportType;
 
 const UDP: TransportType = TransportType::Udp;
 const TCP: TransportType = TransportType::Tcp;
@@ -18,13 +16,7 @@ const BINDING: &[u8] = b"\x01\x01\x00\x3c\x21\x12\xa4\x42\xb7\xe7\xa7\x01\xbc\x3
 \x80\x28\x00\x04\xc0\x7d\x4c\x96";
 
 fn request() -> server::Sent {
-    let (local, remote) = (
-        "10.0.0.1:4000".parse().unwrap(),
-        "10.0.0.9:3478".parse().unwrap(),
-    );
-    let config = TurnConfig::new(TurnCredentials::new("user", "pass"));
-    let mut client = TurnClientUdp::allocate_with_seed(local, remote, config, [0; 32]);
-    next(&mut client, at(0)).unwrap()
+    next(&mut new_client(config()), at(0)).unwrap()
 }
 
 fn message(bytes: &[u8]) -> hints::Message<'_> {

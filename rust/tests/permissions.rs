@@ -2,12 +2,14 @@
 
 mod server;
 
-use server::{allocate, allocation, answer, at, challenge, grant, next, success, SIGNED};
+use server::{
+    allocate, allocation, answer, at, challenge, config, grant, new_client, next, success, SIGNED,
+};
 use std::net::{IpAddr, Ipv4Addr, SocketAddr};
 use std::time::{Duration, Instant};
-use yarrowdoor::api::{TurnConfig, TurnRecvRet};
+use yarrowdoor::api::TurnRecvRet;
 use yarrowdoor::prelude::*;
-use yarrowdoor::types::{AddressFamily, TransportType, TurnCredentials};
+use yarrowdoor::types::{AddressFamily, TransportType};
 use yarrowdoor::udp::TurnClientUdp;
 
 const UDP: TransportType = TransportType::Udp;
@@ -18,18 +20,6 @@ const COUNT: u32 = 4_000;
 /// The most that a list of so many takes. By the lookups it took 46 ms.
 const MOST: Duration = Duration::from_millis(15);
 
-fn client(config: TurnConfig) -> TurnClientUdp {
-    let (local, remote) = (
-        "10.0.0.1:4000".parse().unwrap(),
-        "10.0.0.9:3478".parse().unwrap(),
-    );
-    TurnClientUdp::allocate_with_seed(local, remote, config, [0; 32])
-}
-
-fn config() -> TurnConfig {
-    TurnConfig::new(TurnCredentials::new("user", "pass"))
-}
-
 fn peer(number: u32) -> IpAddr {
     Ipv4Addr::from(0x0a02_0000 + number).into()
 }
@@ -38,7 +28,7 @@ fn peer(number: u32) -> IpAddr {
 fn permitted() -> TurnClientUdp {
     let mut config = config();
     config.set_request_cadence(Duration::ZERO);
-    let mut client = client(config);
+    let mut client = new_client(config);
     allocate(&mut client);
     for number in 0..COUNT {
         client.create_permission(UDP, peer(number), at(2)).unwrap();
@@ -86,7 +76,7 @@ fn each_relayed_address_is_listed() {
     ];
     let mut config = config();
     config.add_address_family(AddressFamily::IPV6);
-    let mut client = client(config);
+    let mut client = new_client(config);
     let first = next(&mut client, at(0)).unwrap();
     let returned = answer(&mut client, &first, challenge(&first, 401, "nonce"), at(0));
     assert!(matches!(returned, TurnRecvRet::Handled));

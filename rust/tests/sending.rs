@@ -2,13 +2,11 @@
 
 mod server;
 
-use server::{allocate, at, grant, next};
+use server::{allocated, at, grant, next};
 use std::net::SocketAddr;
-use yarrowdoor::api::{
-    DelayedMessageOrChannelSend, PacketHead, SendError, TransmitBuild, TurnConfig,
-};
+use yarrowdoor::api::{DelayedMessageOrChannelSend, PacketHead, SendError, TransmitBuild};
 use yarrowdoor::prelude::*;
-use yarrowdoor::types::{TransportType, TurnCredentials};
+use yarrowdoor::types::TransportType;
 use yarrowdoor::udp::TurnClientUdp;
 
 const DATA: &[u8] = b"hello";
@@ -17,14 +15,25 @@ fn peer() -> SocketAddr {
     "10.0.0.7:9000".parse().unwrap()
 }
 
-fn client() -> TurnClientUdp {
-    let (local, remote) = (
-        "10.0.0.1:4000".parse().unwrap(),
-        "10.0.0.9:3478".parse().unwrap(),
-    );
-    let config = TurnConfig::new(TurnCredentials::new("user", "pass"));
-    let mut client = TurnClientUdp::allocate_with_seed(local, remote, config, [0; 32]);
-    allocate(&mut client);
+/// A client with a permission for the peer.
+fn permitted() -> TurnClientUdp {
+    let (mut client, ip) = (allocated(), peer().ip());
+    client
+        .create_permission(TransportType::Udp, ip, at(2))
+        .unwrap();
+    let request = next(&mut client, at(2)).unwrap();
+    grant(&mut client, &request, &[], at(2));
+    client
+}
+
+/// A client with a channel to the peer.
+fn bound() -> TurnClientUdp {
+    let mut client = allocated();
+    client
+        .bind_channel(TransportType::Udp, peer(), at(2))
+        .unwrap();
+    let request = next(&mut client, at(2)).unwrap();
+    grant(&mut client, &request, &[], at(2));
     client
 }
 
@@ -50,13 +59,7 @@ fn bytes_of(packet: DelayedMessageOrChannelSend<&[u8]>) -> Vec<u8> {
 
 #[test]
 fn a_peer_with_a_permission_gets_a_send_indication() {
-    let mut client = client();
-    let ip = peer().ip();
-    client
-        .create_permission(TransportType::Udp, ip, at(2))
-        .unwrap();
-    let request = next(&mut client, at(2)).unwrap();
-    grant(&mut client, &request, &[], at(2));
+    let mut client = permitted();
     let packet = send(&mut client, TransportType::Udp).data;
     assert!(matches!(packet, DelayedMessageOrChannelSend::Message(_)));
     let (bytes, built) = (
@@ -71,12 +74,7 @@ fn a_peer_with_a_permission_gets_a_send_indication() {
 
 #[test]
 fn a_peer_with_a_channel_gets_channel_data() {
-    let mut client = client();
-    client
-        .bind_channel(TransportType::Udp, peer(), at(2))
-        .unwrap();
-    let request = next(&mut client, at(2)).unwrap();
-    grant(&mut client, &request, &[], at(2));
+    let mut client = bound();
     let packet = send(&mut client, TransportType::Udp).data;
     assert!(matches!(packet, DelayedMessageOrChannelSend::Channel(_)));
     // padded to a multiple of four, which is allowed over UDP (RFC 8656, section 12.5)
@@ -105,13 +103,10 @@ fn in_parts(head: &PacketHead) -> Vec<u8> {
 
 #[test]
 fn a_head_the_data_and_the_padding_are_the_packet() {
-    let mut client = client();
-    let (ip, over) = (peer().ip(), TransportType::Udp);
-    let refused = client.send_head(over, peer(), DATA.len(), at(2));
+    let over = TransportType::Udp;
+    let refused = allocated().send_head(over, peer(), DATA.len(), at(2));
     assert_eq!(refused.unwrap_err(), SendError::NoPermission);
-    client.create_permission(over, ip, at(2)).unwrap();
-    let request = next(&mut client, at(2)).unwrap();
-    grant(&mut client, &request, &[], at(2));
+    let mut client = permitted();
 
     let head = client.send_head(over, peer(), DATA.len(), at(9)).unwrap();
     let packet = send(&mut client, over).build();
@@ -137,12 +132,7 @@ fn a_head_the_data_and_the_padding_are_the_packet() {
 
 #[test]
 fn a_head_of_a_channel_has_four_bytes() {
-    let mut client = client();
-    client
-        .bind_channel(TransportType::Udp, peer(), at(2))
-        .unwrap();
-    let request = next(&mut client, at(2)).unwrap();
-    grant(&mut client, &request, &[], at(2));
+    let mut client = bound();
     let head = |client: &mut TurnClientUdp, len| {
         let head = client.send_head(TransportType::Udp, peer(), len, at(9));
         head.unwrap().data

@@ -2,7 +2,7 @@
 
 mod server;
 
-use server::{allocate, at, grant, next};
+use server::{addresses, allocate, at, config, grant, new_client, next};
 use std::net::{IpAddr, SocketAddr};
 use std::time::Duration;
 use yarrowdoor::api::{KeepError, TurnConfig, TurnEvent, TurnPollRet};
@@ -10,22 +10,10 @@ use yarrowdoor::client::TurnClient;
 use yarrowdoor::prelude::*;
 use yarrowdoor::stun::Instant;
 use yarrowdoor::tcp::TurnClientTcp;
-use yarrowdoor::types::{TransportType, TurnCredentials};
+use yarrowdoor::types::TransportType;
 use yarrowdoor::udp::TurnClientUdp;
 
 const UDP: TransportType = TransportType::Udp;
-
-fn config() -> TurnConfig {
-    TurnConfig::new(TurnCredentials::new("user", "pass"))
-}
-
-fn new_client(config: TurnConfig) -> TurnClientUdp {
-    let (local, remote) = (
-        "10.0.0.1:4000".parse().unwrap(),
-        "10.0.0.9:3478".parse().unwrap(),
-    );
-    TurnClientUdp::allocate_with_seed(local, remote, config, [0; 32])
-}
 
 /// A client whose allocation was granted at 1 s, and expires at 601 s.
 fn client(config: TurnConfig) -> TurnClientUdp {
@@ -234,10 +222,7 @@ fn a_channel_that_is_let_go_is_not_refreshed() {
 
 #[test]
 fn what_is_not_granted_is_not_let_go() {
-    let (local, remote) = (
-        "10.0.0.1:4000".parse().unwrap(),
-        "10.0.0.9:3478".parse().unwrap(),
-    );
+    let (local, remote) = addresses();
     let tcp = || TurnClientTcp::allocate_with_seed(local, remote, config(), [0; 32]);
     let refused = Err(KeepError::NotGranted);
     let mut udp = new_client(config());

@@ -2,16 +2,15 @@
 
 mod server;
 
-use server::{allocate, at, grant, next};
+use server::{allocated, at, grant, next};
 use std::future::{ready, Future};
 use std::net::IpAddr;
 use std::pin::pin;
 use std::sync::Arc;
 use std::task::{Context, Poll, Wake};
 use std::thread;
-use yarrowdoor::api::TurnConfig;
 use yarrowdoor::prelude::*;
-use yarrowdoor::types::{TransportType, TurnCredentials};
+use yarrowdoor::types::TransportType;
 use yarrowdoor::udp::TurnClientUdp;
 
 const UDP: TransportType = TransportType::Udp;
@@ -22,13 +21,7 @@ fn peer(number: u8) -> IpAddr {
 
 /// A client with an allocation, and with permissions for the first nine peers.
 fn client() -> TurnClientUdp {
-    let (local, remote) = (
-        "10.0.0.1:4000".parse().unwrap(),
-        "10.0.0.9:3478".parse().unwrap(),
-    );
-    let config = TurnConfig::new(TurnCredentials::new("user", "pass"));
-    let mut client = TurnClientUdp::allocate_with_seed(local, remote, config, [0; 32]);
-    allocate(&mut client);
+    let mut client = allocated();
     for number in 1..10 {
         let now = at(u64::from(number) + 1);
         client.create_permission(UDP, peer(number), now).unwrap();

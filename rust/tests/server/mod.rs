@@ -7,9 +7,11 @@ pub mod tcp;
 
 use std::net::SocketAddr;
 use std::time::Duration;
-use yarrowdoor::api::{Transmit, TurnRecvRet};
+use yarrowdoor::api::{Transmit, TurnConfig, TurnRecvRet};
 use yarrowdoor::prelude::*;
 use yarrowdoor::stun::Instant;
+use yarrowdoor::types::TurnCredentials;
+use yarrowdoor::udp::TurnClientUdp;
 
 pub const ALLOCATE: u16 = 0x003;
 pub const REFRESH: u16 = 0x004;
@@ -131,6 +133,30 @@ pub fn at(seconds: u64) -> Instant {
 
 /// When the handshake sends its signed request: after the pause of 50 ms, and before its retransmission is due.
 pub const SIGNED: Duration = Duration::from_millis(400);
+
+/// The addresses of a client and of its server.
+pub fn addresses() -> (SocketAddr, SocketAddr) {
+    let (local, remote) = ("10.0.0.1:4000", "10.0.0.9:3478");
+    (local.parse().unwrap(), remote.parse().unwrap())
+}
+
+/// A configuration with the password of this server.
+pub fn config() -> TurnConfig {
+    TurnConfig::new(TurnCredentials::new("user", "pass"))
+}
+
+/// A client over UDP, which asks for an allocation.
+pub fn new_client(config: TurnConfig) -> TurnClientUdp {
+    let (local, remote) = addresses();
+    TurnClientUdp::allocate_with_seed(local, remote, config, [0; 32])
+}
+
+/// A client over UDP that has an allocation.
+pub fn allocated() -> TurnClientUdp {
+    let mut client = new_client(config());
+    allocate(&mut client);
+    client
+}
 
 /// Passes through the handshake: a challenge at 0 s, and at 1 s an allocation for 600 s at 10.0.0.2:50000.
 pub fn allocate(client: &mut impl TurnClientApi) {

@@ -1,20 +1,16 @@
 //! A client over TCP, with a data connection to a peer (RFC 6062).
 
 use super::{at, grant, next, Sent};
-use yarrowdoor::api::{TurnConfig, TurnPollRet};
+use yarrowdoor::api::TurnPollRet;
 use yarrowdoor::prelude::*;
 use yarrowdoor::tcp::TurnClientTcp;
-use yarrowdoor::types::{TransportType, TurnCredentials};
+use yarrowdoor::types::TransportType;
 
 pub const PEER: &str = "10.0.0.7:9000";
 
 /// A client with a permission for the peer in an allocation over TCP.
 pub fn client() -> TurnClientTcp {
-    let (local, remote) = (
-        "10.0.0.1:4000".parse().unwrap(),
-        "10.0.0.9:3478".parse().unwrap(),
-    );
-    let mut config = TurnConfig::new(TurnCredentials::new("user", "pass"));
+    let ((local, remote), mut config) = (super::addresses(), super::config());
     config.set_allocation_transport(TransportType::Tcp);
     let mut client = TurnClientTcp::allocate_with_seed(local, remote, config, [0; 32]);
     super::allocate(&mut client);
