@@ -5,12 +5,6 @@
 # How the names of programs end: of Windows alone by something.
 exe=""
 
-# Notes what is not tested, and why.
-lacking() {
-    missing+="not tested: $1, since $2"$'\n'
-    return 1
-}
-
 # Builds both programs into a folder, over the library in another one, by a compiler with its words. Their names end with $exe.
 build_for() {
     local to=$1 from=$2
