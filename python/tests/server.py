@@ -68,9 +68,10 @@ class Server:
     def __init__(self, user: str = "user", password: str = "pass", nonce_life: Optional[float] = None,
                  allocate_error: Optional[int] = None, signs_errors: bool = True, denied: Tuple[str, ...] = (),
                  lifetime: int = LIFETIME) -> None:
-        self.key = hashlib.md5(f"{user}:realm:{password}".encode()).digest()
+        self._password = password
         self.user, self.nonce_life, self.lifetime = user.encode(), nonce_life, lifetime
         self.allocate_error, self.signs_errors, self.denied = allocate_error, signs_errors, denied
+        self.serve_realm(b"realm")
         self.allocations: Dict[Where, Allocation] = {}
         self.answered: Dict[Tuple[Where, bytes], bytes] = {}
         self.nonce, self.nonce_since = b"nonce-0", 0.0
@@ -81,6 +82,10 @@ class Server:
         self.bindings = 0
         self.challenges = 0
         self.refreshes = 0
+
+    def serve_realm(self, realm: bytes) -> None:
+        """Takes requests that are signed for this realm from now on."""
+        self.realm, self.key = realm, hashlib.md5(b":".join([self.user, realm, self._password.encode()])).digest()
 
     def receive(self, data: bytes, source: Where, now: float) -> List[Tuple[bytes, Where]]:
         """Takes a packet of a client, and gives packets to clients and peers."""
@@ -134,6 +139,8 @@ class Server:
 
     def answer(self, message: Message, source: Where, allocation: Optional[Allocation], now: float) -> bytes:
         found = message.attributes
+        if found.get(0x0014, self.realm) != self.realm:
+            return self.error(message, 441, is_signed=False)  # as coturn
         if 0x0008 not in found or found.get(0x0006) != self.user or not self.is_signed(message):
             return self.error(message, 401, is_signed=False)
         if self.stale:
@@ -179,7 +186,7 @@ class Server:
 
     def error(self, message: Message, code: int, is_signed: bool = True) -> bytes:
         body = attribute(0x0009, struct.pack("!HBB", 0, code // 100, code % 100) + b"no")
-        body += attribute(0x0014, b"realm") + attribute(0x0015, self.nonce)
+        body += attribute(0x0014, self.realm) + attribute(0x0015, self.nonce)
         if is_signed and self.signs_errors:
             return self.signed(message.kind | 0x0110, message.transaction, body)
         return struct.pack("!HH", message.kind | 0x0110, len(body)) + COOKIE + message.transaction + body

@@ -122,6 +122,18 @@ class Returns(Case):
                 self.assertRegex(str(states[1].reason), "^the server no longer knows the relayed address: .*437")
                 await self.echo(relay)
 
+    async def test_a_server_that_was_restarted_with_another_realm(self) -> None:
+        """It takes no request that is signed for the one before (441), and signs none of these answers."""
+        endpoint = await self.serve(Restarting())
+        relay, states = self.relay(endpoint, clock=fast(200), probe=1500, times=Times())
+        async with relay:
+            await relay.permit(PEER[0])
+            endpoint.server.forget()
+            endpoint.server.serve_realm(b"another realm")
+            await self.until(lambda: len(states) == 3, 120)
+            self.assertRegex(str(states[1].reason), "^the server no longer knows the relayed address: .*441")
+            await self.echo(relay)
+
     async def test_a_server_that_answers_no_check(self) -> None:
         """It is asked by a signed request before it is given up."""
         endpoint = await self.serve(Restarting())
