@@ -115,7 +115,7 @@ class Checks(unittest.IsolatedAsyncioTestCase):
                 if not is_probed:
                     await relay.check()
                 with self.assertRaisesRegex(Ended, "^the server no longer knows the relayed address: .*437"):
-                    await asyncio.wait_for(relay.receive(), 5)
+                    await asyncio.wait_for(relay.receive(), 30)
 
     async def test_the_same_mapping_asks_for_nothing(self) -> None:
         endpoint = await self.serve()
