@@ -191,17 +191,29 @@ static int take_time(struct text *parts, uint64_t *value)
     return next_part(parts, ',', &part) && parse_decimal(part, UINT64_MAX, value);
 }
 
-static int take_waits(struct text *fields, yarrowdoor_settings *s)
+static int parse_waits(struct text parts, yarrowdoor_settings *s)
 {
-    struct text parts;
-    if (!fields->at) {
-        return 1;
-    }
-    next_part(fields, ' ', &parts);
     s->has_waits = 1;
     return take_time(&parts, &s->wait_initial) && take_time(&parts, &s->wait_max) &&
-           take_decimal(&parts, ',', UINT32_MAX, &s->wait_count) && take_time(&parts, &s->wait_last) && !parts.at &&
-           !fields->at;
+           take_decimal(&parts, ',', UINT32_MAX, &s->wait_count) && take_time(&parts, &s->wait_last) && !parts.at;
+}
+
+/* The waits, if there is a field for them, and the word for requests that are timed from when they are sent, if it is the last. */
+static int take_timing(struct text *fields, yarrowdoor_settings *s)
+{
+    static const char FROM_SEND[] = "timed_from_send";
+    struct text field;
+    while (fields->at) {
+        next_part(fields, ' ', &field);
+        if (field.len == sizeof FROM_SEND - 1 && memcmp(field.at, FROM_SEND, field.len) == 0) {
+            s->timed_from_send = 1;
+            return !fields->at;
+        }
+        if (s->has_waits || !parse_waits(field, s)) {
+            return 0;
+        }
+    }
+    return 1;
 }
 
 static int take_seed(struct text *fields, uint8_t seed[32])
@@ -222,7 +234,7 @@ static int parse_head(struct trace *trace, struct text line)
            take_choice(&line, ALGORITHMS, &s->algorithm, &s->other_algorithm) &&
            take_choice(&line, HIDING, &s->anonymous, &none) && take_bytes(trace, &line, &head->user, &head->user_len) &&
            take_bytes(trace, &line, &head->password, &head->password_len) && take_seed(&line, head->seed) &&
-           take_waits(&line, s);
+           take_timing(&line, s);
 }
 
 static const struct choice NAMES[] = {

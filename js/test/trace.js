@@ -39,6 +39,8 @@ function address(text) {
 const about = (text) => (text.includes(":") ? address(text) : ip(text));
 const addressOrNone = (text) => (text === "-" ? undefined : address(text));
 
+const FROM_SEND = "timed_from_send";
+
 function times(text) {
     const [first, most, count, final, ...more] = text.split(",");
     const [initial, longest, last] = [first, most, final].map((wait) => decimal(wait, MAX_U64));
@@ -67,6 +69,12 @@ function fieldsOf(texts, parsers) {
     return names.length === texts.length ? Object.fromEntries(names.map((name, at) => [name, parsers[name](texts[at])])) : bad("argument");
 }
 
+/** The settings of a client: the word for requests that are timed from when they are sent is the last field, if it is there. */
+function headOf(texts) {
+    const timedFromSend = texts.length > 10 && texts.at(-1) === FROM_SEND, fields = timedFromSend ? texts.slice(0, -1) : texts;
+    return { ...fieldsOf(fields, fields.length > 10 ? { ...HEAD, times } : HEAD), timedFromSend };
+}
+
 function callOf(line, head) {
     const [moment, name, ...texts] = line.split(" "), now = decimal(moment, MAX_TIME, "moment");
     const call = { name, now, ...fieldsOf(texts, Object.hasOwn(CALLS, name) ? CALLS[name] : bad("call")) };
@@ -81,7 +89,7 @@ export function parseTrace(text) {
         return { calls, bad: "line 0: bad size" };
     }
     try {
-        head = { ...fieldsOf(texts, texts.length > 10 ? { ...HEAD, times } : HEAD), timedFromSend: false };
+        head = headOf(texts);
         lines.forEach((line) => calls.push(calls.length < MAX_CALLS ? callOf(line, head) : bad("size")));
         return { head, calls };
     } catch (error) {

@@ -32,12 +32,14 @@ def to_hex(data: bytes) -> str:
 
 
 def client_of(head: str) -> sans_io.Client:
-    way, local, remote, relay, families, signs, hides, user, password, seed, *times = head.split(" ")
+    way, local, remote, relay, families, signs, hides, user, password, seed, *timing = head.split(" ")
+    is_from_send = timing[-1:] == ["timed_from_send"]
+    times = timing[:-1] if is_from_send else timing
     waits = [int(it) for it in times[0].split(",")] if times else []
     return sans_io.Client(
         address(local), address(remote), from_hex(user), from_hex(password), transport=way, allocation=relay,
         families=[int(it) for it in families.split(",")], algorithms=signs.split(","), anonymous=hides, seed=from_hex(seed),
-        times=sans_io.Times(waits[0], waits[1], waits[3], waits[2]) if waits else None, timed_from_send=False,
+        times=sans_io.Times(waits[0], waits[1], waits[3], waits[2]) if waits else None, timed_from_send=is_from_send,
     )
 
 

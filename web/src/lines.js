@@ -39,6 +39,8 @@ function address(text) {
 const about = (text) => (text.includes(":") ? address(text) : ip(text));
 const addressOrNone = (text) => (text === "-" ? undefined : address(text));
 
+const FROM_SEND = "timed_from_send";
+
 function times(text) {
     const [first, most, count, final, ...more] = text.split(",");
     const [initial, longest, last] = [first, most, final].map((wait) => decimal(wait ?? "", MAX_U64));
@@ -72,9 +74,10 @@ function fieldsOf(texts, parsers) {
  * @param {string} line
  */
 export function parseHead(line) {
-    const texts = line.split(" ");
+    const texts = line.split(" "), timedFromSend = texts.length > 10 && texts.at(-1) === FROM_SEND;
+    const fields = timedFromSend ? texts.slice(0, -1) : texts;
     try {
-        return { ...fieldsOf(texts, texts.length > 10 ? { ...HEAD, times } : HEAD), timedFromSend: false };
+        return { ...fieldsOf(fields, fields.length > 10 ? { ...HEAD, times } : HEAD), timedFromSend };
     } catch (error) {
         throw error instanceof BadLine ? new BadLine("bad head") : error;
     }

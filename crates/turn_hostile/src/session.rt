@@ -193,6 +193,7 @@ pub fn head_of(alloc: Global, kind: Kind, seed: u64) -> Result<Head, Fault>
         credentials: TurnCredentials::new(alloc, user, password)?,
         seed: seed_bytes(seed),
         waits: None,
+        timed_from_send: false,
     })
 }
 

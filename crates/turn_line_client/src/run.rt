@@ -4,9 +4,9 @@ ghost use Rattle.std.specs.Prelude.{◌≡◌, All, IfOk, string_bytes};
 ghost use Rattle.turn_client_calls.specs.Run.{IsCallable};
 ghost use Rattle.turn_line_client.specs.Answered.{answered_text};
 
+use crate::client::timed_configuration;
 use std::alloc::{AllocError, Global};
 use turn_client_calls::Call;
-use turn_client_calls::settings::configuration;
 use turn_client_proto::replay;
 use turn_lines::head::Head;
 use turn_lines::print::answers_text;
@@ -28,8 +28,9 @@ pub fn replayed_text(alloc: Global, head: Head, calls: &[Call]) -> Result<String
         credentials,
         seed,
         waits,
+        timed_from_send,
     } = head;
-    let config = configuration(alloc, request, credentials, waits);
+    let config = timed_configuration(alloc, request, credentials, waits, timed_from_send);
     let replayed = replay(
         alloc,
         ends.transport,

@@ -1,5 +1,5 @@
 -- The client of a head can be made: over UDP it requests an allocation over UDP.
-use Rattle.std.proofs.Common.{◌≡◌, ℕ, List, Option, Some, refl, subst}
+use Rattle.std.proofs.Common.{◌≡◌, ℕ, Bool, List, Option, Some, refl, subst}
 use Rattle.std.specs.Option.{option_and_then}
 use Rattle.turn_stun.specs.declared.transport.TransportType.{TransportType}
 use Rattle.turn_stun.specs.declared.transport.TransportType.TheVariants.{Udp, Tcp}
@@ -10,7 +10,7 @@ use Rattle.turn_client_calls.specs.declared.settings.Ends.{Ends}
 use Rattle.turn_client_calls.specs.declared.settings.Request.{Request}
 use Rattle.turn_client_calls.specs.declared.settings.Waits.{Waits}
 use Rattle.turn_lines.specs.Field.{seed_of}
-use Rattle.turn_lines.specs.Head.{credentials_of, ends_of, head_of, last_of, request_of}
+use Rattle.turn_lines.specs.Head.{credentials_of, ends_of, head_of, request_of, timing_of}
 use Rattle.turn_lines.specs.Parts.{next, parts_of}
 use Rattle.turn_lines.specs.declared.head.Head.{Head}
 use Rattle.turn_lines.proofs.StepLemmas.{of_and_then, some_is}
@@ -19,12 +19,15 @@ abbrev pub IsMade : Head → Type 0
 IsMade head = head.ends.transport ≡ Udp → head.request.allocation ≡ Udp
 
 -- the head made of these fields
-abbrev with_waits : Ends → Request → Credentials → List ℕ → Option Waits → Option Head
-with_waits places request credentials seed waits =
-    Some (record { ends = places; request = request; credentials = credentials; seed = seed; waits = waits })
+abbrev head_with : Ends → Request → Credentials → List ℕ → Option Waits × Bool → Head
+head_with places request credentials seed timing =
+    record { ends = places; request = request; credentials = credentials; seed = seed; waits = timing.0; timed_from_send = timing.1 }
+
+abbrev with_timing : Ends → Request → Credentials → List ℕ → Option Waits × Bool → Option Head
+with_timing places request credentials seed timing = Some (head_with places request credentials seed timing)
 
 abbrev with_seed : Ends → Request → Credentials → List ℕ × List (List ℕ) → Option Head
-with_seed places request credentials seed = last_of seed.1 >>= with_waits places request credentials seed.0
+with_seed places request credentials seed = timing_of seed.1 >>= with_timing places request credentials seed.0
 
 abbrev with_credentials : Ends → Request → Credentials × List (List ℕ) → Option Head
 with_credentials places request credentials = next seed_of credentials.1 >>= with_seed places request credentials.0
@@ -43,10 +46,11 @@ relayed_is Udp Tcp f head h over = cc
 relayed_is Tcp allocation f head h over = cc
 
 -- the head was made of these fields
-made_of : (places : Ends) (request : Request) (credentials : Credentials) (seed : List ℕ) (waits : Option Waits) (head : Head) → with_waits places request credentials seed waits ≡ Some head
+made_of : (places : Ends) (request : Request) (credentials : Credentials) (seed : List ℕ) (timing : Option Waits × Bool) (head : Head)
+    → with_timing places request credentials seed timing ≡ Some head
     → (places.transport ≡ Udp → request.allocation ≡ Udp) → IsMade head
-made_of places request credentials seed waits head h made =
-    subst IsMade (some_is (record { ends = places; request = request; credentials = credentials; seed = seed; waits = waits }) head h) made
+made_of places request credentials seed timing head h made =
+    subst IsMade (some_is (head_with places request credentials seed timing) head h) made
 
 made_with : (places : Ends) (request : Request × List (List ℕ)) (head : Head) → with_request places request ≡ Some head → IsMade head
 made_with places request head h =
@@ -54,8 +58,8 @@ made_with places request head h =
     let relayed = of_and_then (relayed_for places.transport request.0.allocation) go_on head h in
     let credentials = of_and_then (credentials_of request.1) (with_credentials places request.0) head relayed.1 in
     let seed = of_and_then (next seed_of credentials.0.1) (with_seed places request.0 credentials.0.0) head credentials.1 in
-    let waits = of_and_then (last_of seed.0.1) (with_waits places request.0 credentials.0.0 seed.0.0) head seed.1 in
-    made_of places request.0 credentials.0.0 seed.0.0 waits.0 head waits.1 (relayed_is places.transport request.0.allocation go_on head h)
+    let timing = of_and_then (timing_of seed.0.1) (with_timing places request.0 credentials.0.0 seed.0.0) head seed.1 in
+    made_of places request.0 credentials.0.0 seed.0.0 timing.0 head timing.1 (relayed_is places.transport request.0.allocation go_on head h)
 
 pub made_line : (line : List ℕ) (head : Head) → head_of line ≡ Some head → IsMade head
 unfolding head_of

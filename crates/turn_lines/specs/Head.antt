@@ -1,5 +1,6 @@
 -- The first line of a trace: the client and its server.
-use Rattle.std.specs.Prelude.{ℕ, ◌-◌, ◌^◌, if◌then◌else◌, List, [], ◌∷◌, codes, Option, Some, None}
+use Rattle.std.specs.Prelude.{ℕ, ◌-◌, ◌^◌, Bool, true, false, if◌then◌else◌, List, [], ◌∷◌, codes, Option, Some, None}
+use Rattle.std.specs.Option.{option_map}
 use Rattle.std.specs.Str.{bytes_eq}
 use Rattle.turn_types.specs.declared.family.AddressFamily.{AddressFamily}
 use Rattle.turn_types.specs.declared.family.AddressFamily.TheVariants.{IPV4, IPV6}
@@ -79,15 +80,26 @@ waits_of text = do
   _ ← ends last.1
   Some (record { initial = initial.0; max = max.0; count = count.0; last = last.0 })
 
--- the retransmission times, if there is a field for them, and no field after it
-abbrev pub last_of : List (List ℕ) → Option (Option Waits)
-last_of [] = Some None
-last_of (field ∷ fields) = do
-  waits ← waits_of field
-  _ ← ends fields
-  Some (Some waits)
+-- the word for requests that are timed from their first copies
+abbrev pub is_from_send : List ℕ → Bool
+is_from_send text = bytes_eq text (codes "timed_from_send")
 
--- T LOCAL REMOTE ALLOC FAMS INTEG ANON USER PASS SEED, and optionally the retransmission times
+-- whether that word is left, and no field after it
+abbrev pub from_send_of : List (List ℕ) → Option Bool
+from_send_of [] = Some false
+from_send_of (field ∷ fields) = if is_from_send field then option_map (λ _. true) (ends fields) else None
+
+-- the retransmission times, if there is a field for them, and whether the word is the last field
+abbrev pub timing_of : List (List ℕ) → Option (Option Waits × Bool)
+timing_of [] = Some (None, false)
+timing_of (field ∷ fields) =
+    if is_from_send field then option_map (λ _. (None, true)) (ends fields)
+    else do
+      waits ← waits_of field
+      from_send ← from_send_of fields
+      Some (Some waits, from_send)
+
+-- T LOCAL REMOTE ALLOC FAMS INTEG ANON USER PASS SEED, and optionally how requests are timed
 unfoldable pub head_of : List ℕ → Option Head
 head_of line = do
   places ← ends_of (parts_of 32 line)
@@ -95,5 +107,12 @@ head_of line = do
   _ ← relayed_for places.0.transport request.0.allocation
   credentials ← credentials_of request.1
   seed ← next seed_of credentials.1
-  waits ← last_of seed.1
-  Some (record { ends = places.0; request = request.0; credentials = credentials.0; seed = seed.0; waits = waits })
+  timing ← timing_of seed.1
+  Some (record {
+    ends = places.0;
+    request = request.0;
+    credentials = credentials.0;
+    seed = seed.0;
+    waits = timing.0;
+    timed_from_send = timing.1;
+  })

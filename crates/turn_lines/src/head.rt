@@ -6,7 +6,7 @@ ghost use Rattle.turn_lines.specs.Head.{head_of, ends_of, request_of, credential
 
 use crate::address::parse_address;
 use crate::field::{FieldError, parse_bytes, parse_seed, parse_transport};
-use crate::head::waits::take_waits;
+use crate::head::waits::take_timing;
 use crate::head::words::{parse_algorithms, parse_families, parse_feature};
 use crate::parts::Parts;
 use std::alloc::Global;
@@ -31,6 +31,8 @@ pub struct Head {
     pub seed: [u8; 32],
     /// The retransmission times, or `None` for the default ones.
     pub waits: Option<Waits>,
+    /// Whether a queued request waits for its response from when its first copy is sent.
+    pub timed_from_send: bool,
 }
 
 /// The client and its server.
@@ -50,13 +52,14 @@ pub fn parse_head(alloc: Global, line: &[u8]) -> Result<Head, FieldError>
     let seed = parse_seed(fields.next().ok_or(FieldError::Malformed)?).ok_or(
         FieldError::Malformed,
     )?;
-    let waits = take_waits(&mut fields).ok_or(FieldError::Malformed)?;
+    let (waits, timed_from_send) = take_timing(&mut fields).ok_or(FieldError::Malformed)?;
     Ok(Head {
         ends,
         request,
         credentials,
         seed,
         waits,
+        timed_from_send,
     })
 }
 

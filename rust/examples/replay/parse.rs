@@ -11,6 +11,7 @@ use yarrowdoor::types::{AddressFamily, TransportType, TurnCredentials};
 const MAX_TRACE: usize = 1_048_576;
 const MAX_CALLS: usize = 10_000;
 const MAX_PAYLOAD: usize = 65_504;
+const FROM_SEND: &str = "timed_from_send";
 
 /// A transport and two ends.
 #[derive(Clone, Copy)]
@@ -195,6 +196,17 @@ fn set_waits(config: &mut TurnConfig, text: &str) -> Option<()> {
     Some(())
 }
 
+/// The times, if there is a field for them, and the word for requests that are timed from when they are sent, if it is the last.
+fn set_timing(config: &mut TurnConfig, fields: &mut Fields<'_>) -> Option<()> {
+    let mut field = fields.0.next();
+    if let Some(waits) = field.filter(|&text| text != FROM_SEND) {
+        set_waits(config, waits)?;
+        field = fields.0.next();
+    }
+    config.set_requests_timed_from_send(field.is_some());
+    field.is_none_or(|text| text == FROM_SEND).then_some(())
+}
+
 fn parse_head(line: &str) -> Option<Head> {
     let mut fields = Fields(line.split(' '));
     let ends = fields.ends()?;
@@ -213,9 +225,7 @@ fn parse_head(line: &str) -> Option<Head> {
     set_families(&mut config, families)?;
     set_integrity(&mut config, integrity)?;
     let seed = hex(fields.0.next()?)?.try_into().ok()?;
-    if let Some(waits) = fields.0.next() {
-        set_waits(&mut config, waits)?;
-    }
+    set_timing(&mut config, &mut fields)?;
     let is_over_tcp = ends.transport == TransportType::Tcp || allocation == TransportType::Udp;
     (is_over_tcp && fields.0.next().is_none()).then_some(Head { ends, config, seed })
 }

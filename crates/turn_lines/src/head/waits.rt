@@ -1,25 +1,44 @@
-//! The retransmission times, from the head's last field.
+//! How requests are timed, from the head's last fields.
 
 ghost use Rattle.std.specs.Prelude.{◌≡◌};
-ghost use Rattle.turn_lines.specs.Head.{waits_of, last_of};
+ghost use Rattle.turn_lines.specs.Head.{from_send_of, timing_of, waits_of};
 
 use crate::number::parse_decimal;
 use crate::parts::Parts;
 use turn_client_calls::settings::Waits;
 
-/// The retransmission times from the last field, `Some(None)` if no field is left, or `None` if the field
-/// is malformed or not the last.
-pub fn take_waits(fields: &mut Parts<'_>) -> Option<Option<Waits>>
-    ensures { result ≡ last_of fields.old }
+/// The word for requests that are timed from when their first copies are sent.
+const FROM_SEND: &[u8] = b"timed_from_send";
+
+/// The retransmission times, if there is a field for them, and whether the word `timed_from_send` is the last field. `None`
+/// if a field is neither, or another one follows.
+pub fn take_timing(fields: &mut Parts<'_>) -> Option<(Option<Waits>, bool)>
+    ensures { result ≡ timing_of fields.old }
 {
-    match fields.next() {
-        None => Some(None),
-        Some(text) => {
-            let waits = parse_waits(text)?;
-            fields.end()?;
-            Some(Some(waits))
-        }
+    let Some(field) = fields.next() else {
+        return Some((None, false));
+    };
+    if field == FROM_SEND {
+        fields.end()?;
+        return Some((None, true));
     }
+    let waits = parse_waits(field)?;
+    let timed_from_send = take_from_send(fields)?;
+    Some((Some(waits), timed_from_send))
+}
+
+/// Whether the word `timed_from_send` is left. `None` if another field is, or one after it.
+fn take_from_send(fields: &mut Parts<'_>) -> Option<bool>
+    ensures { result ≡ from_send_of fields.old }
+{
+    let Some(field) = fields.next() else {
+        return Some(false);
+    };
+    if field != FROM_SEND {
+        return None;
+    }
+    fields.end()?;
+    Some(true)
 }
 
 /// `INITIAL,MAX,COUNT,FINAL`.
