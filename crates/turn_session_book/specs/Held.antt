@@ -1,6 +1,7 @@
 -- What the server has granted to a session.
-use Rattle.std.specs.Prelude.{Bool, true, if◌then◌else◌, List, [], ◌∷◌, ◌++◌, find, option_map, Option}
+use Rattle.std.specs.Prelude.{Bool, true, false, if◌then◌else◌, List, [], ◌∷◌, ◌++◌, find, option_map, Option}
 use Rattle.std.specs.List.{list_any}
+use Rattle.std.specs.Option.{option_map_or}
 use Rattle.turn_session_book.specs.First.{with_first, without_first}
 use Rattle.turn_session_book.specs.Keys.{same_key}
 use Rattle.turn_session_book.specs.declared.held.HeldGrant.{HeldGrant}
@@ -15,6 +16,10 @@ is_held key held = list_any (is_of key) held
 -- whether the grant of this key is kept, if there is one
 abbrev pub is_kept_in : Key → List HeldGrant → Option Bool
 is_kept_in key held = option_map (λ g. g.is_kept) (find (is_of key) held)
+
+-- it was granted, and is kept
+abbrev pub is_kept_held : Key → List HeldGrant → Bool
+is_kept_held key held = option_map_or (λ g. g.is_kept) (find (is_of key) held) false
 
 abbrev pub held_grant : Key → Bool → HeldGrant
 held_grant key is_kept = record { key = key; is_kept = is_kept }

@@ -1,5 +1,5 @@
 -- The requests of the caller that have no outcome yet.
-use Rattle.std.specs.Prelude.{ℕ, ◌-◌, Bool, true, false, List, [], ◌∷◌, ◌++◌, find, length, take, Option, Some, None}
+use Rattle.std.specs.Prelude.{ℕ, ◌-◌, Bool, true, false, List, [], ◌∷◌, ◌++◌, find, length, slice_get, take, Option, Some, None}
 use Rattle.turn_session_book.specs.First.{with_first, without_first}
 use Rattle.turn_session_book.specs.Keys.{same_key}
 use Rattle.turn_session_book.specs.declared.keys.Key.{Key}
@@ -39,6 +39,14 @@ without_last requests = take (length requests - 1) requests
 -- the others
 abbrev pub without_request : Key → List OpenRequest → List OpenRequest
 without_request key requests = without_first (is_for key) requests
+
+-- all but the oldest
+abbrev pub without_oldest : List OpenRequest → List OpenRequest
+without_oldest requests = by (slice_get requests 0)
+  where
+    by : Option OpenRequest → List OpenRequest
+    by None = requests
+    by (Some r) = without_request r.key requests
 
 abbrev pub is_waiting : Progress → Bool
 is_waiting Waiting = true

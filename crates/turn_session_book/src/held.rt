@@ -2,7 +2,7 @@
 
 ghost use Rattle.std.specs.Prelude.{◌≡◌, [], OnErr, OnOk};
 ghost use Rattle.std.specs.List.{position};
-ghost use Rattle.turn_session_book.specs.Held.{after_grant, is_held, is_kept_in, is_of, with_mark, without_grant};
+ghost use Rattle.turn_session_book.specs.Held.{after_grant, is_held, is_kept_held, is_kept_in, is_of, with_mark, without_grant};
 
 use crate::keys::Key;
 use std::alloc::{AllocError, Global};
@@ -47,6 +47,16 @@ impl Held {
         ensures { result ≡ is_held key self.now }
     {
         self.grants.iter().any(|grant| grant.key == key)
+    }
+
+    /// Whether this key was granted, and the caller keeps it.
+    pub fn is_kept(&self, key: Key) -> bool
+        ensures { result ≡ is_kept_held key self.now }
+    {
+        match self.place_of(key) {
+            Some(place) => self.grants[place].is_kept,
+            None => false,
+        }
     }
 
     /// The server has granted this key. The caller keeps it, unless it was granted before.

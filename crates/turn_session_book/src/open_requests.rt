@@ -1,8 +1,8 @@
 //! The requests of the caller that have no outcome yet.
 
-ghost use Rattle.std.specs.Prelude.{◌≡◌, [], IfOk, IsOk, IsSome, OnErr, OnOk};
+ghost use Rattle.std.specs.Prelude.{◌≡◌, [], IfOk, IsOk, IsSome, OnErr, OnOk, slice_get};
 ghost use Rattle.std.specs.List.{position};
-ghost use Rattle.turn_session_book.specs.OpenRequests.{after_request, first_waiting, is_for, is_waiting, request_for, ticket_for, without_last};
+ghost use Rattle.turn_session_book.specs.OpenRequests.{after_request, first_waiting, is_for, is_waiting, request_for, ticket_for, without_last, without_oldest};
 ghost use Rattle.turn_session_book.specs.OpenRequests.{with_hint, with_progress, without_request};
 
 use crate::keys::Key;
@@ -115,6 +115,19 @@ impl OpenRequests {
             Some(place) => Some(self.requests.remove(place)),
             None => None,
         }
+    }
+
+    /// Removes the oldest request, which has its outcome.
+    pub fn settle_first(&mut self) -> Option<OpenRequest>
+        ensures request { result ≡ slice_get self.old 0 }
+        ensures after { self.new ≡ without_oldest self.old }
+    {
+        if self.requests.is_empty() {
+            return None;
+        }
+        let oldest = self.requests[0];
+        let _settled = self.settle(oldest.key);
+        Some(oldest)
     }
 
     /// The first request that waits.

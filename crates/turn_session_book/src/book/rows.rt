@@ -1,8 +1,8 @@
 //! The rows of a book.
 
 ghost use Rattle.std.specs.Prelude.{◌≡◌, IfOk, IsOk, IsSome, OnErr, OnOk, drop, slice_get};
-ghost use Rattle.turn_session_book.specs.Held.{is_held, with_mark};
-ghost use Rattle.turn_session_book.specs.OpenRequests.{after_request, first_waiting, request_for, ticket_for, with_hint, with_progress, without_last};
+ghost use Rattle.turn_session_book.specs.Held.{is_held, is_kept_held, with_mark};
+ghost use Rattle.turn_session_book.specs.OpenRequests.{after_request, first_waiting, request_for, ticket_for, with_hint, with_progress, without_last, without_oldest};
 ghost use Rattle.turn_session_book.specs.Rests.{rest_in_force};
 
 use crate::book::Book;
@@ -63,6 +63,21 @@ impl Book {
         ensures { self.new ≡ record self.old { requests = with_hint key error self.old.requests } }
     {
         self.requests.hint(key, error);
+    }
+
+    /// Removes the oldest request, which has its outcome: the caller of this call reports it.
+    pub fn settle_first(&mut self) -> Option<OpenRequest>
+        ensures request { result ≡ slice_get self.old.requests 0 }
+        ensures after { self.new ≡ record self.old { requests = without_oldest self.old.requests } }
+    {
+        self.requests.settle_first()
+    }
+
+    /// Whether this key was granted, and the caller keeps it.
+    pub fn is_kept(&self, key: Key) -> bool
+        ensures { result ≡ is_kept_held key self.now.held }
+    {
+        self.held.is_kept(key)
     }
 
     /// Whether this key was granted.
