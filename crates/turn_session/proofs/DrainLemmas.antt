@@ -1,44 +1,42 @@
 -- The events of the client are noted one by one.
-use Rattle.std.proofs.Common.{◌≡◌, ℕ, ◌<◌, List, [], ◌∷◌, ◌++◌, length, drop, Some, None, refl, sym, ap, ◌∙◌, arith}
-use Rattle.std.specs.Prelude.{OnErr, Result, Ok, Err, Option, option_to_list, slice_get}
-use Rattle.turn_client_api.specs.State.{State}
+use Rattle.std.proofs.Common.{◌≡◌, ℕ, ◌<◌, List, [], ◌∷◌, length, Some, None, refl, sym, ap, arith}
+use Rattle.std.specs.Prelude.{OnErr, Result, Ok, Err, Option}
 use Rattle.turn_client_api.specs.declared.event.TurnEvent.{TurnEvent}
-use Rattle.turn_session.specs.Drain.{all_noted, drained, next_event, unnoted}
+use Rattle.turn_session.specs.Drain.{drained, next_event, unnoted}
 use Rattle.turn_session.specs.Notes.{noted}
 use Rattle.turn_session.specs.SessionState.{SessionState}
-use Rattle.turn_session.specs.declared.notes.Notes.{Notes}
 
-abbrev session_of : State → List TurnEvent → Notes → Option TurnEvent → ℕ → SessionState
-session_of client events notes taken ticket =
-    record { client = record client { events = events }; notes = notes; taken = taken; next_ticket = ticket }
+-- a session with these events, of which one may be noted next
+abbrev session_of : SessionState → List TurnEvent → Option TurnEvent → SessionState
+session_of s events taken = record s { client = record s.client { events = events }; taken = taken }
 
 -- ---- the next event
 
-next-unnoted_of : (client : State) (events : List TurnEvent) (notes : Notes) (taken : Option TurnEvent) (ticket : ℕ)
-    → unnoted (next_event (session_of client events notes taken ticket)).1 ≡ unnoted (session_of client events notes taken ticket)
-next-unnoted_of client events notes (Some event) ticket = refl
-next-unnoted_of client [] notes None ticket = refl
-next-unnoted_of client (event ∷ later) notes None ticket = refl
+next-unnoted_of : (s : SessionState) (events : List TurnEvent) (taken : Option TurnEvent)
+    → unnoted (next_event (session_of s events taken)).1 ≡ unnoted (session_of s events taken)
+next-unnoted_of s events (Some event) = refl
+next-unnoted_of s [] None = refl
+next-unnoted_of s (event ∷ later) None = refl
 
 pub next-unnoted : (s : SessionState) → unnoted (next_event s).1 ≡ unnoted s
-next-unnoted s = next-unnoted_of s.client s.client.events s.notes s.taken s.next_ticket
+next-unnoted s = next-unnoted_of s s.client.events s.taken
 
-next-drained_of : (now : ℕ) (client : State) (events : List TurnEvent) (notes : Notes) (taken : Option TurnEvent) (ticket : ℕ)
-    → drained now (next_event (session_of client events notes taken ticket)).1 ≡ drained now (session_of client events notes taken ticket)
-next-drained_of now client events notes (Some event) ticket = refl
-next-drained_of now client [] notes None ticket = refl
-next-drained_of now client (event ∷ later) notes None ticket = refl
+next-drained_of : (now : ℕ) (s : SessionState) (events : List TurnEvent) (taken : Option TurnEvent)
+    → drained now (next_event (session_of s events taken)).1 ≡ drained now (session_of s events taken)
+next-drained_of now s events (Some event) = refl
+next-drained_of now s [] None = refl
+next-drained_of now s (event ∷ later) None = refl
 
 pub next-drained : (now : ℕ) (s : SessionState) → drained now (next_event s).1 ≡ drained now s
-next-drained now s = next-drained_of now s.client s.client.events s.notes s.taken s.next_ticket
+next-drained now s = next-drained_of now s s.client.events s.taken
 
-next-taken_of : (client : State) (events : List TurnEvent) (notes : Notes) (taken : Option TurnEvent) (ticket : ℕ)
-    → (next_event (session_of client events notes taken ticket)).1.taken ≡ (next_event (session_of client events notes taken ticket)).0
-next-taken_of client events notes (Some event) ticket = refl
-next-taken_of client events notes None ticket = refl
+next-taken_of : (s : SessionState) (events : List TurnEvent) (taken : Option TurnEvent)
+    → (next_event (session_of s events taken)).1.taken ≡ (next_event (session_of s events taken)).0
+next-taken_of s events (Some event) = refl
+next-taken_of s events None = refl
 
 pub next-taken : (s : SessionState) → (next_event s).1.taken ≡ (next_event s).0
-next-taken s = next-taken_of s.client s.client.events s.notes s.taken s.next_ticket
+next-taken s = next-taken_of s s.client.events s.taken
 
 -- ---- an event is noted
 
@@ -54,15 +52,15 @@ noted-fewer now s event taken =
 
 -- ---- none is left
 
-none-drained_of : (now : ℕ) (client : State) (events : List TurnEvent) (notes : Notes) (taken : Option TurnEvent) (ticket : ℕ)
-    → (next_event (session_of client events notes taken ticket)).0 ≡ None
-    → (next_event (session_of client events notes taken ticket)).1 ≡ drained now (session_of client events notes taken ticket)
-none-drained_of now client events notes (Some event) ticket none = cc
-none-drained_of now client [] notes None ticket none = refl
-none-drained_of now client (event ∷ later) notes None ticket none = cc
+none-drained_of : (now : ℕ) (s : SessionState) (events : List TurnEvent) (taken : Option TurnEvent)
+    → (next_event (session_of s events taken)).0 ≡ None
+    → (next_event (session_of s events taken)).1 ≡ drained now (session_of s events taken)
+none-drained_of now s events (Some event) none = cc
+none-drained_of now s [] None none = refl
+none-drained_of now s (event ∷ later) None none = cc
 
 pub none-drained : (now : ℕ) (s : SessionState) → (next_event s).0 ≡ None → (next_event s).1 ≡ drained now s
-none-drained now s none = none-drained_of now s.client s.client.events s.notes s.taken s.next_ticket none
+none-drained now s none = none-drained_of now s s.client.events s.taken none
 
 -- ---- without memory
 

@@ -7,15 +7,17 @@ use Rattle.turn_session_book.specs.Held.{is_held}
 use Rattle.turn_session_book.specs.OpenRequests.{after_request, request_for, ticket_for}
 use Rattle.turn_session_book.specs.Rests.{rest_in_force}
 use Rattle.turn_session_book.specs.declared.answers.Answer.{Answer}
-use Rattle.turn_session_book.specs.declared.answers.Answer.TheVariants.{Granted, Ticket, Resting, Refused}
+use Rattle.turn_session_book.specs.declared.answers.Answer.TheVariants.{Granted, Ticket, Resting, Refused, Ended}
 use Rattle.turn_session_book.specs.declared.answers.CallError.{CallError}
 use Rattle.turn_session_book.specs.declared.answers.CallError.TheVariants.{NoAllocation, NotGranted, OutOfMemory}
 use Rattle.turn_session_book.specs.declared.keys.Key.{Key}
 use Rattle.turn_session_book.specs.declared.keys.Key.TheVariants.{Permission}
 use Rattle.turn_session_book.specs.declared.open_requests.OpenRequest.{OpenRequest}
 use Rattle.turn_session_book.specs.declared.open_requests.Progress.{Progress}
-use Rattle.turn_session_book.specs.declared.open_requests.Progress.TheVariants as Progress
 use Rattle.turn_session_book.specs.declared.rests.Rest.{Rest}
+use Rattle.turn_session_book.specs.declared.causes.Why.{Why}
+use Rattle.turn_session_life.specs.Life.{cause_in}
+use Rattle.turn_session.specs.Keeping.{keep_step}
 use Rattle.turn_session.specs.Making.{made}
 use Rattle.turn_session.specs.SessionState.{SessionState, with_book}
 use Rattle.turn_session.specs.Waiting.{must_wait}
@@ -87,3 +89,17 @@ Begins answer was s said =
 abbrev pub Answers : Option Answer → Key → ℕ → Answer → SessionState → SessionState → Type 0
 Answers (Some known) key now answer was s = (answer ≡ known) × (s ≡ was)
 Answers None key now answer was s = Begins answer was s (begun key now was)
+
+-- ---- the call
+
+abbrev pub AnswersNow : Key → Bool → ℕ → Answer → SessionState → SessionState → Type 0
+AnswersNow key is_for_data now answer was s =
+    let k = (keep_step key true was).1 in Answers (known_answer key is_for_data now k) key now answer k s
+
+-- what was let go is kept again; a session that leaves or has ended requests nothing
+abbrev pub Requests : Key → Bool → ℕ → Answer → SessionState → SessionState → Type 0
+Requests key is_for_data now answer was s = by (cause_in was.life.phase)
+  where
+    by : Option Why → Type 0
+    by (Some why) = (answer ≡ Ended why) × (s ≡ was)
+    by None = AnswersNow key is_for_data now answer was s

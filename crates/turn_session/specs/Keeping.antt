@@ -1,5 +1,5 @@
 -- What the caller keeps of what was granted.
-use Rattle.std.specs.Prelude.{Bool, true, false, Result, Ok, Err, Option, Some, None}
+use Rattle.std.specs.Prelude.{Bool, true, false, if◌then◌else◌, Result, Ok, Err, Option, Some, None}
 use Rattle.turn_stun.specs.declared.transport.TransportType.{TransportType}
 use Rattle.turn_client_api.specs.State.{State}
 use Rattle.turn_client_api.specs.Calls.{channel_kept_step, permission_kept_step}
@@ -8,6 +8,7 @@ use Rattle.turn_client_api.specs.declared.error.KeepError.TheVariants.{NotGrante
 use Rattle.turn_session_book.specs.Held.{with_mark}
 use Rattle.turn_session_book.specs.declared.keys.Key.{Key}
 use Rattle.turn_session_book.specs.declared.keys.Key.TheVariants.{Permission, Channel, Connect}
+use Rattle.turn_session_life.specs.Life.{is_running}
 use Rattle.turn_session.specs.SessionState.{SessionState, with_book}
 
 -- what the client says, and the client after it
@@ -27,3 +28,7 @@ keep_step key is_kept s = by s.notes.relays
     by : Option TransportType → Bool × SessionState
     by None = (false, s)
     by (Some relays) = said (kept key relays is_kept s.client)
+
+-- of a session that leaves or has ended nothing is kept
+abbrev pub kept_while_running : Key → Bool → SessionState → Bool × SessionState
+kept_while_running key is_kept s = if is_running s.life.phase then keep_step key is_kept s else (false, s)

@@ -11,7 +11,6 @@ use Rattle.turn_client_api.specs.declared.error.CreatePermissionError.{CreatePer
 use Rattle.turn_client_api.specs.declared.error.CreatePermissionError.TheVariants as Create
 use Rattle.turn_client_api.specs.declared.error.TcpConnectError.{TcpConnectError}
 use Rattle.turn_client_api.specs.declared.error.TcpConnectError.TheVariants as Join
-use Rattle.turn_session_book.specs.declared.answers.CallError.{CallError}
 use Rattle.turn_session_book.specs.declared.answers.CallError.TheVariants.{NoAllocation, NoPermission, AlreadyExists, Reserved}
 use Rattle.turn_session_book.specs.declared.keys.Key.{Key}
 use Rattle.turn_session_book.specs.declared.keys.Key.TheVariants.{Permission, Channel, Connect}

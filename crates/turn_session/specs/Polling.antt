@@ -1,20 +1,34 @@
 -- A session is polled.
-use Rattle.std.specs.Prelude.{◌≡◌, ◌⊎◌, ℕ, Bool, true, false, Option, Some, None}
+use Rattle.std.specs.Prelude.{◌≡◌, ◌⊎◌, ℕ, min, nat_lt, Bool, true, false, if◌then◌else◌, List, Option, Some, None, is_some}
+use Rattle.turn_stun.specs.declared.transport.Transmit.{Transmit}
 use Rattle.turn_stun.specs.declared.transport.TransportType.{TransportType}
 use Rattle.turn_client_api.specs.Effect.{closed}
 use Rattle.turn_client_api.specs.Poll.{poll_step}
 use Rattle.turn_client_api.specs.State.{State}
+use Rattle.turn_client_api.specs.Transmit.{transmit_step}
 use Rattle.turn_client_api.specs.declared.poll.TurnPollRet.{TurnPollRet}
-use Rattle.turn_client_api.specs.declared.poll.TurnPollRet.TheVariants.{WaitUntil}
+use Rattle.turn_client_api.specs.declared.poll.TurnPollRet.TheVariants.{WaitUntil, Closed}
 use Rattle.turn_session_book.specs.Book.{after_settlement}
 use Rattle.turn_session_book.specs.OpenRequests.{with_progress}
 use Rattle.turn_session_book.specs.declared.answers.Outcome.TheVariants.{NotMade}
+use Rattle.turn_session_book.specs.declared.causes.Why.{Why}
+use Rattle.turn_session_book.specs.declared.causes.Why.TheVariants.{GrantSilent, OutOfMemory}
 use Rattle.turn_session_book.specs.declared.keys.Key.{Key}
 use Rattle.turn_session_book.specs.declared.open_requests.OpenRequest.{OpenRequest}
 use Rattle.turn_session_book.specs.declared.open_requests.Progress.TheVariants.{Queued}
+use Rattle.turn_session_life.specs.Heard.{IsCauseWithoutAddress, cause_of_end, settled}
+use Rattle.turn_session_life.specs.Life.{after_opening}
+use Rattle.turn_session_life.specs.Verdict.{verdict_step}
+use Rattle.turn_session_life.specs.declared.life.Phase.{Phase}
+use Rattle.turn_session_life.specs.declared.life.Phase.TheVariants.{Opening, Leaving, Over}
+use Rattle.turn_session_life.specs.declared.verdict.Blame.{Blame}
+use Rattle.turn_session_life.specs.declared.verdict.VerdictStep.{VerdictStep}
+use Rattle.turn_session_life.specs.declared.verdict.VerdictStep.TheVariants as Verdict
 use Rattle.turn_session.specs.Drain.{drained}
+use Rattle.turn_session.specs.Ending.{ended, is_opening, is_over, left_for}
+use Rattle.turn_session.specs.Leaving.{PollsLeaving, shortage_end}
 use Rattle.turn_session.specs.Making.{made}
-use Rattle.turn_session.specs.SessionState.{SessionState, with_book}
+use Rattle.turn_session.specs.SessionState.{SessionState, is_stream, with_book}
 use Rattle.turn_session.specs.Waiting.{next_to_make}
 use Rattle.turn_session.specs.declared.making.Made.{Made}
 use Rattle.turn_session.specs.declared.making.Made.TheVariants as Client
@@ -39,20 +53,6 @@ next_made now s = by s.notes.relays (next_to_make s)
     by (Some relays) (Some r) = (true, waiting_made r.key relays now s)
     by _ _ = (false, s)
 
--- ---- the call
-
--- the error that was received last belongs to events that are noted
-abbrev pub cleared : SessionState → SessionState
-cleared s = record s { notes = record s.notes { reply = None } }
-
-abbrev pub polled : ℕ → Bool × SessionState → TurnPollRet × SessionState
-polled now (true, s) = (WaitUntil now, s)
-polled now (false, s) = let step = poll_step now s.client in (step.0, record s { client = step.1 })
-
--- what has happened is noted, and then a request is made, or else the client is polled
-abbrev pub session_poll : ℕ → SessionState → TurnPollRet × SessionState
-session_poll now s = polled now (next_made now (cleared (drained now s)))
-
 -- ---- without memory
 
 -- the request waits on, and the client is as it was, or refused the request
@@ -66,8 +66,114 @@ NextWaitsOn now was s = by was.notes.relays (next_to_make was)
     by (Some relays) (Some r) = WaitsOn r.key relays now was s
     by _ _ = ⊥
 
--- what is left is noted by the next call, or a request waits on, or the client has ended
-abbrev pub PollFalls : ℕ → SessionState → SessionState → Type 0
-PollFalls now was s =
-    let ready = cleared (drained now was) in
-    (drained now s ≡ drained now was) ⊎ (NextWaitsOn now ready s ⊎ (s ≡ record ready { client = closed ready.client }))
+-- ---- what is noted first
+
+-- once an address is granted the session is open, and the error that was received last belongs to events that are noted
+abbrev pub opened : SessionState → SessionState
+opened s = record s {
+  notes = record s.notes { reply = None };
+  life = if is_some s.notes.relays then after_opening s.life else s.life;
+}
+
+-- over a stream, where nothing is lost, a kept grant whose renewal had no response
+abbrev pub silent_grant : SessionState → Option Key
+silent_grant s = if is_stream s.client.transport then s.notes.silent else None
+
+-- the verdict, while an address is requested
+abbrev pub verdict_noted : ℕ → SessionState → Bool × SessionState
+verdict_noted now s = by s.life.phase (verdict_step now s.verdict.blame)
+  where
+    by : Phase → VerdictStep → Bool × SessionState
+    by Opening (Verdict.Ended why) = (true, left_for why now s)
+    by _ _ = (false, s)
+
+abbrev pub cause_noted : ℕ → SessionState → Bool × SessionState
+cause_noted now s = by (silent_grant s)
+  where
+    by : Option Key → Bool × SessionState
+    by (Some key) = (true, ended (GrantSilent key) s)
+    by None = verdict_noted now s
+
+-- what has happened is noted first
+abbrev pub prepared : ℕ → SessionState → Bool × SessionState
+prepared now s = cause_noted now (opened (drained now s))
+
+-- ---- the client is polled
+
+-- without an address, and with one
+abbrev pub IsCause : ℕ → SessionState → Why → Type 0
+IsCause now s why = by (is_opening s.life.phase)
+  where
+    by : Bool → Type 0
+    by true = IsCauseWithoutAddress now s.heard why
+    by false = why ≡ cause_of_end s.heard
+
+abbrev pub EndsWithCause : ℕ → SessionState → SessionState → Type 0
+EndsWithCause now was s = (why : Why) × IsCause now was why × (s ≡ ended why was)
+
+-- the call is repeated, since memory was wanted for an event
+abbrev pub IsShort : ℕ → TurnPollRet → Type 0
+IsShort now answer = answer ≡ WaitUntil (shortage_end now)
+
+-- the client has ended: its last events are noted, and then the session has ended
+abbrev pub Closes : ℕ → SessionState → SessionState → TurnPollRet → Type 0
+Closes now was s answer =
+    ((answer ≡ Closed) × EndsWithCause now (drained now was) s) ⊎ (IsShort now answer × (drained now s ≡ drained now was))
+
+-- a client that waits has not ended by a challenge
+abbrev pub waiting : ℕ → ℕ → SessionState → SessionState
+waiting time now s = if nat_lt now time then record s { heard = settled s.heard } else s
+
+-- nor does it wait beyond the verdict
+abbrev pub sooner : ℕ → SessionState → ℕ
+sooner time s = by s.life.phase s.verdict.blame
+  where
+    by : Phase → Option Blame → ℕ
+    by Opening (Some blame) = min time blame.until
+    by _ _ = time
+
+abbrev pub AfterPoll : ℕ → TurnPollRet → SessionState → SessionState → TurnPollRet → Type 0
+AfterPoll now (WaitUntil time) was s answer = (answer ≡ WaitUntil (sooner time was)) × (s ≡ waiting time now was)
+AfterPoll now Closed was s answer = Closes now was s answer
+AfterPoll now said was s answer = (answer ≡ said) × (s ≡ was)
+
+-- without memory the client has ended
+abbrev pub PollsClient : ℕ → SessionState → SessionState → TurnPollRet → Type 0
+PollsClient now was s answer =
+    let step = poll_step now was.client in
+    AfterPoll now step.0 (record was { client = step.1 }) s answer
+    ⊎ ((answer ≡ Closed) × (s ≡ ended OutOfMemory (record was { client = closed was.client })))
+
+-- ---- the call
+
+abbrev pub MadeOrPolled : ℕ → SessionState → Bool × SessionState → SessionState → TurnPollRet → Type 0
+MadeOrPolled now was (true, t) s answer = ((answer ≡ WaitUntil now) × (s ≡ t)) ⊎ (IsShort now answer × NextWaitsOn now was s)
+MadeOrPolled now was (false, t) s answer = PollsClient now t s answer
+
+-- a request that waits is made, or else the client is polled
+abbrev pub MakesOrPolls : ℕ → SessionState → SessionState → TurnPollRet → Type 0
+MakesOrPolls now was s answer = MadeOrPolled now was (next_made now was) s answer
+
+abbrev pub PollsNoted : ℕ → Bool × SessionState → SessionState → TurnPollRet → Type 0
+PollsNoted now (true, t) s answer = (answer ≡ WaitUntil now) × (s ≡ t)
+PollsNoted now (false, t) s answer = MakesOrPolls now t s answer
+
+abbrev pub PollsRunning : ℕ → SessionState → SessionState → TurnPollRet → Type 0
+PollsRunning now was s answer =
+    PollsNoted now (prepared now was) s answer ⊎ (IsShort now answer × (drained now s ≡ drained now was))
+
+abbrev pub Polls : ℕ → SessionState → SessionState → TurnPollRet → Type 0
+Polls now was s answer = by was.life.phase
+  where
+    by : Phase → Type 0
+    by (Over why) = (answer ≡ Closed) × (s ≡ was)
+    by (Leaving leave) = PollsLeaving leave now was s answer
+    by _ = PollsRunning now was s answer
+
+-- ---- packets
+
+-- those of the client, and none after the end
+abbrev pub transmitted : ℕ → SessionState → Option (Transmit (List ℕ)) × SessionState
+transmitted now s =
+    if is_over s.life.phase then (None, s)
+    else (let step = transmit_step now s.client in (step.0, record s { client = step.1 }))

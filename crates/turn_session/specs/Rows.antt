@@ -1,5 +1,5 @@
 -- Worked runs, with times in nanoseconds: what a session notes when the server refuses a permission.
-use Rattle.std.specs.Prelude.{◌≡◌, ℕ, List, [], ◌∷◌, Some, None}
+use Rattle.std.specs.Prelude.{◌≡◌, List, [], ◌∷◌, Some}
 use Rattle.std.specs.declared.net.ip_addr.IpAddr.{IpAddr}
 use Rattle.std.specs.declared.net.ip_addr.IpAddr.TheVariants.{V4}
 use Rattle.turn_stun.specs.declared.transport.TransportType.TheVariants.{Udp}
@@ -16,10 +16,9 @@ use Rattle.turn_session_book.specs.declared.keys.Key.{Key}
 use Rattle.turn_session_book.specs.declared.keys.Key.TheVariants.{Permission}
 use Rattle.turn_session_book.specs.declared.open_requests.Progress.TheVariants.{Queued}
 use Rattle.turn_session_book.specs.declared.replies.ErrorReply.{ErrorReply}
-use Rattle.turn_session_book.specs.declared.rests.Rest.{Rest}
 use Rattle.turn_session.specs.Drain.{drained}
 use Rattle.turn_session.specs.Notes.{new_notes}
-use Rattle.turn_session.specs.SessionState.{SessionState}
+use Rattle.turn_session.specs.SessionState.{SessionState, new_session}
 
 abbrev pub peer : IpAddr
 peer = V4 (record { octets = 192 ∷ 0 ∷ 2 ∷ 77 ∷ [] })
@@ -29,10 +28,9 @@ key = Permission peer
 
 -- a permission was requested under the ticket 1, this error was received last, and the client has these events
 abbrev pub requested_session : List TurnEvent → ErrorReply → State → SessionState
-requested_session events error client = record {
+requested_session events error client = record (new_session 2_000_000_000 0 client) {
   client = record client { events = events };
   notes = record new_notes { book = record new_book { requests = new_request 1 key Queued ∷ [] }; reply = Some error };
-  taken = None;
   next_ticket = 2;
 }
 

@@ -1,8 +1,15 @@
 -- A session: its client, and what it notes.
-use Rattle.std.specs.Prelude.{ℕ, Option, None}
+use Rattle.std.specs.Prelude.{ℕ, Bool, true, false, Option, None}
+use Rattle.turn_stun.specs.declared.transport.TransportType.{TransportType}
+use Rattle.turn_stun.specs.declared.transport.TransportType.TheVariants.{Udp, Tcp}
 use Rattle.turn_client_api.specs.State.{State}
 use Rattle.turn_client_api.specs.declared.event.TurnEvent.{TurnEvent}
 use Rattle.turn_session_book.specs.BookState.{BookState}
+use Rattle.turn_session_life.specs.Heard.{nothing_heard}
+use Rattle.turn_session_life.specs.Life.{new_life}
+use Rattle.turn_session_life.specs.declared.heard.Heard.{Heard}
+use Rattle.turn_session_life.specs.declared.life.Life.{Life}
+use Rattle.turn_session_life.specs.declared.verdict.Verdict.{Verdict}
 use Rattle.turn_session.specs.Notes.{new_notes}
 use Rattle.turn_session.specs.declared.notes.Notes.{Notes}
 
@@ -13,9 +20,33 @@ pub record SessionState : Type 0 where
   pub taken : Option TurnEvent
   -- the ticket of the next request
   pub next_ticket : ℕ
+  -- what the server has said of the allocation
+  pub heard : Heard
+  -- what refuses it while it is requested
+  pub verdict : Verdict
+  -- how far the session has come
+  pub life : Life
+  -- how long leaving takes at most, in nanoseconds
+  pub leave_wait : ℕ
 
-abbrev pub new_session : State → SessionState
-new_session client = record { client = client; notes = new_notes; taken = None; next_ticket = 1 }
+abbrev pub is_stream : TransportType → Bool
+is_stream Udp = false
+is_stream Tcp = true
+
+abbrev pub new_session : ℕ → ℕ → State → SessionState
+new_session leave_wait now client = record {
+  client = client;
+  notes = new_notes;
+  taken = None;
+  next_ticket = 1;
+  heard = nothing_heard now;
+  verdict = record { blame = None };
+  life = new_life (is_stream client.transport);
+  leave_wait = leave_wait;
+}
 
 abbrev pub with_book : BookState → SessionState → SessionState
 with_book book s = record s { notes = record s.notes { book = book } }
+
+abbrev pub with_life : Life → SessionState → SessionState
+with_life life s = record s { life = life }

@@ -1,7 +1,7 @@
 //! What a session notes of its client.
 
 ghost use Rattle.std.specs.Prelude.{◌≡◌, OnErr, OnOk};
-ghost use Rattle.turn_session.specs.Notes.{new_notes, noted};
+ghost use Rattle.turn_session.specs.Notes.{failed, new_notes, noted};
 
 use std::alloc::{AllocError, Global};
 use std::net::SocketAddr;
@@ -23,6 +23,8 @@ pub struct Notes {
     pub mapped: Option<SocketAddr>,
     /// The error response that was received last, if the events of the client that are to be noted may come from it.
     pub reply: Option<ErrorReply>,
+    /// A grant that was kept, and whose renewal had no response.
+    pub silent: Option<Key>,
 }
 
 impl Notes {
@@ -35,6 +37,7 @@ impl Notes {
             relays: None,
             mapped: None,
             reply: None,
+            silent: None,
         }
     }
 
@@ -53,13 +56,9 @@ impl Notes {
                 .book
                 .family_failed(family, self.reply),
             TurnEvent::PermissionCreated(_, ip) => self.book.granted(Key::Permission(ip)),
-            TurnEvent::PermissionCreateFailed(_, ip) => {
-                self.book.failed(Key::Permission(ip), self.reply, now)
-            }
+            TurnEvent::PermissionCreateFailed(_, ip) => self.failed(Key::Permission(ip), now),
             TurnEvent::ChannelCreated(_, peer) => self.book.granted(Key::Channel(peer)),
-            TurnEvent::ChannelCreateFailed(_, peer) => {
-                self.book.failed(Key::Channel(peer), self.reply, now)
-            }
+            TurnEvent::ChannelCreateFailed(_, peer) => self.failed(Key::Channel(peer), now),
             TurnEvent::TcpConnected(peer) => self.book.connected(Key::Connect(peer)),
             TurnEvent::TcpConnectFailed(peer) => {
                 self.book.failed(Key::Connect(peer), self.reply, now)
@@ -75,6 +74,19 @@ impl Notes {
         self.book
             .opened(relayed, self.mapped, self.relays.is_none())?;
         self.relays = Some(transport);
+        Ok(())
+    }
+
+    /// The server refused this key, by the error that was received last, or did not answer in time.
+    fn failed(&mut self, key: Key, now: Instant) -> Result<(), AllocError>
+        ensures ok { OnOk result (self.new ≡ failed key now self.old) }
+        ensures err { OnErr result (self.new ≡ self.old) }
+    {
+        let is_silent = self.reply.is_none() && self.book.is_kept(key);
+        self.book.failed(key, self.reply, now)?;
+        if is_silent {
+            self.silent = Some(key);
+        }
         Ok(())
     }
 }

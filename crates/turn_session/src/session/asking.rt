@@ -1,8 +1,8 @@
 //! Requests of the caller, and what it keeps.
 
 ghost use Rattle.std.specs.Prelude.{◌≡◌, ◌≤◌, ◌^◌, true};
-ghost use Rattle.turn_session.specs.Asking.{Answers, Begins, added, answer_with, begun, is_granted, keep_result, known_answer, makes};
-ghost use Rattle.turn_session.specs.Keeping.{keep_step};
+ghost use Rattle.turn_session.specs.Asking.{Answers, Begins, Requests, added, answer_with, begun, is_granted, keep_result, known_answer, makes};
+ghost use Rattle.turn_session.specs.Keeping.{keep_step, kept_while_running};
 ghost use Rattle.turn_session.specs.Waiting.{must_wait};
 ghost use Rattle.turn_session_book.specs.OpenRequests.{request_for};
 
@@ -23,8 +23,19 @@ impl<C: TurnClientApi> Session<C> {
     ///
     /// With a ticket the request has begun, and an event reports its outcome under that ticket, once. It is that of an earlier
     /// request of the same key that is under way. At most eight requests of the client are queued at a time, and the others wait
-    /// here, in the order in which they were made. Without memory nothing is requested.
+    /// here, in the order in which they were made. Without memory nothing is requested, nor by a session that leaves or has ended.
     pub fn request(&mut self, key: Key, is_for_data: bool, now: Instant) -> Answer
+        requires now_in_range { now ≤ 2 ^ 62 }
+        ensures { Requests key is_for_data now result self.old self.new }
+    {
+        match self.life.cause() {
+            Some(why) => Answer::Ended(why),
+            None => self.request_now(key, is_for_data, now),
+        }
+    }
+
+    /// Requests this key in a session that neither leaves nor has ended.
+    fn request_now(&mut self, key: Key, is_for_data: bool, now: Instant) -> Answer
         requires now_in_range { now ≤ 2 ^ 62 }
         ensures { let k = (keep_step key true self.old).1 in Answers (known_answer key is_for_data now k) key now result k self.new }
     {
@@ -39,12 +50,13 @@ impl<C: TurnClientApi> Session<C> {
     ///
     /// # Errors
     ///
-    /// `NotGranted` if it was neither granted nor requested, and for a data connection. Nothing changes then.
+    /// `NotGranted` if it was neither granted nor requested, for a data connection, and if the session leaves or has ended. Nothing
+    /// changes then.
     pub fn set_kept(&mut self, key: Key, is_kept: bool) -> Result<(), CallError>
-        ensures answer { result ≡ keep_result (keep_step key is_kept self.old).0 }
-        ensures after { self.new ≡ (keep_step key is_kept self.old).1 }
+        ensures answer { result ≡ keep_result (kept_while_running key is_kept self.old).0 }
+        ensures after { self.new ≡ (kept_while_running key is_kept self.old).1 }
     {
-        if self.keep(key, is_kept) {
+        if self.life.is_running() && self.keep(key, is_kept) {
             return Ok(());
         }
         Err(CallError::NotGranted)

@@ -2,112 +2,212 @@
 
 ghost use Rattle.std.specs.Prelude.{◌≡◌, ◌≤◌, ◌^◌, IfOk, IsSome, OnErr, OnOk};
 ghost use Rattle.turn_client_api.specs.Effect.{closed};
-ghost use Rattle.turn_client_api.specs.Transmit.{next_transmit, transmit_step};
-ghost use Rattle.turn_session.specs.Polling.{NextWaitsOn, PollFalls, WaitsOn, next_made, session_poll, waiting_made};
-ghost use Rattle.turn_session.specs.Waiting.{next_to_make};
+ghost use Rattle.turn_client_api.specs.Transmit.{next_transmit};
+ghost use Rattle.turn_session.specs.Drain.{drained};
+ghost use Rattle.turn_session.specs.Ending.{ended};
+ghost use Rattle.turn_session.specs.Polling.{AfterPoll, Closes, IsCause, MakesOrPolls, Polls, PollsClient, PollsRunning, cause_noted, opened};
+ghost use Rattle.turn_session.specs.Polling.{prepared, silent_grant, sooner, transmitted, waiting};
 
-use crate::constants::MAX_UNSENT;
-use crate::making::{Made, make};
 use crate::session::Session;
+use crate::session::leaving::shortage_end;
 use std::alloc::AllocError;
 use turn_client_api::{TurnClientApi, TurnPollRet};
-use turn_session_book::answers::Outcome;
+use turn_session_book::causes::Why;
 use turn_session_book::keys::Key;
-use turn_session_book::open_requests::{OpenRequest, Progress};
+use turn_session_life::life::Phase;
+use turn_session_life::verdict::VerdictStep;
 use turn_stun::data::Data;
 use turn_stun::instant::Instant;
 use turn_stun::transport::Transmit;
 use turn_types::TransportType;
 
 impl<C: TurnClientApi> Session<C> {
-    /// Notes what has happened in the client, and makes a request that waits or polls the client. If the time that it returns is
-    /// not in the future, call it again, and `poll_event` and `poll_transmit` before.
+    /// Notes what has happened in the client, makes a request that waits, and polls the client. If the time that it returns is not in
+    /// the future, call it again, and `poll_event` and `poll_transmit` before. It returns `Closed` when the session has ended, and an
+    /// event says why.
     ///
-    /// # Errors
-    ///
-    /// If memory allocation fails. No event is lost, and what waits is still made; a client that failed has ended, as its `poll`
-    /// says.
-    pub fn poll(&mut self, now: Instant) -> Result<TurnPollRet, AllocError>
+    /// If memory allocation fails for what is noted or made, nothing is lost, and the next call is asked for after 100 ms. If it
+    /// fails in the client, the client has ended, and the session with it.
+    pub fn poll(&mut self, now: Instant) -> TurnPollRet
         requires now_in_range { now ≤ 2 ^ 62 }
-        ensures ok { IfOk result (λ answer. (answer, self.new) ≡ session_poll now self.old) }
-        ensures err { OnErr result (PollFalls now self.old self.new) }
+        ensures { Polls now self.old self.new result }
     {
-        self.drain(now)?;
-        self.notes.reply = None;
-        if self.make_next(now)? {
-            return Ok(TurnPollRet::WaitUntil(now));
+        match self.life.phase {
+            Phase::Over(_) => TurnPollRet::Closed,
+            Phase::Leaving(leave) => self.poll_leaving(leave, now),
+            _ => self.poll_running(now),
         }
-        self.client.poll(now)
     }
 
-    /// The next packet to send, or none, as the client returns it. Call it until it returns none.
+    /// Polls a session that neither leaves nor has ended.
+    fn poll_running(&mut self, now: Instant) -> TurnPollRet
+        requires now_in_range { now ≤ 2 ^ 62 }
+        ensures { PollsRunning now self.old self.new result }
+    {
+        match self.prepare(now) {
+            Ok(false) => self.poll_prepared(now),
+            Ok(true) => TurnPollRet::WaitUntil(now),
+            Err(_) => TurnPollRet::WaitUntil(shortage_end(now)),
+        }
+    }
+
+    /// Notes what has happened, and ends the session if it has a cause to end by itself. Returns whether it has one.
     ///
     /// # Errors
     ///
-    /// If memory allocation fails. The client has ended then, and nothing else has changed.
+    /// If memory allocation fails. Nothing is lost: what is left is noted by the next call.
+    fn prepare(&mut self, now: Instant) -> Result<bool, AllocError>
+        ensures ok { IfOk result (λ is_ending. (is_ending, self.new) ≡ prepared now self.old) }
+        ensures err { OnErr result (drained now self.new ≡ drained now self.old) }
+    {
+        self.drain(now)?;
+        self.note_opening();
+        Ok(self.note_cause(now))
+    }
+
+    /// Makes a request that waits, or polls the client.
+    fn poll_prepared(&mut self, now: Instant) -> TurnPollRet
+        requires now_in_range { now ≤ 2 ^ 62 }
+        ensures { MakesOrPolls now self.old self.new result }
+    {
+        match self.make_next(now) {
+            Ok(false) => self.poll_client(now),
+            Ok(true) => TurnPollRet::WaitUntil(now),
+            Err(_) => TurnPollRet::WaitUntil(shortage_end(now)),
+        }
+    }
+
+    /// The session is open once the server has granted an address, and no error belongs to events that are still to come.
+    fn note_opening(&mut self)
+        ensures { self.new ≡ opened self.old }
+    {
+        self.notes.reply = None;
+        if self.notes.relays.is_some() {
+            self.life.opened();
+        }
+    }
+
+    /// Ends the session if it has a cause to end by itself. Returns whether it has one.
+    fn note_cause(&mut self, now: Instant) -> bool
+        ensures { (result, self.new) ≡ cause_noted now self.old }
+    {
+        if let Some(key) = self.silent_grant() {
+            self.life.end(Why::GrantSilent(key));
+            return true;
+        }
+        if !matches!(self.life.phase, Phase::Opening) {
+            return false;
+        }
+        match self.verdict.poll(now) {
+            VerdictStep::Ended(why) => {
+                self.end_soon(why, now);
+                true
+            }
+            _ => false,
+        }
+    }
+
+    /// Over a stream: a kept grant whose renewal had no response.
+    fn silent_grant(&self) -> Option<Key>
+        ensures { result ≡ silent_grant self.now }
+    {
+        match self.client.transport() {
+            TransportType::Udp => None,
+            TransportType::Tcp => self.notes.silent,
+        }
+    }
+
+    /// Polls the client.
+    fn poll_client(&mut self, now: Instant) -> TurnPollRet
+        requires now_in_range { now ≤ 2 ^ 62 }
+        ensures { PollsClient now self.old self.new result }
+    {
+        match self.client.poll(now) {
+            Ok(answer) => self.after_poll(answer, now),
+            Err(_) => {
+                self.life.end(Why::OutOfMemory);
+                TurnPollRet::Closed
+            }
+        }
+    }
+
+    /// What the client's answer means for the session.
+    fn after_poll(&mut self, answer: TurnPollRet, now: Instant) -> TurnPollRet
+        ensures { AfterPoll now answer self.old self.new result }
+    {
+        match answer {
+            TurnPollRet::Closed => self.close(now),
+            TurnPollRet::WaitUntil(time) => {
+                self.settle(time, now);
+                TurnPollRet::WaitUntil(self.sooner(time))
+            }
+            _ => answer,
+        }
+    }
+
+    /// A client that waits until this time has not ended by a challenge.
+    fn settle(&mut self, time: Instant, now: Instant)
+        ensures { self.new ≡ waiting time now self.old }
+    {
+        if now < time {
+            self.heard.settle();
+        }
+    }
+
+    /// The sooner of this time and that of the verdict, if there is one.
+    fn sooner(&self, time: Instant) -> Instant
+        ensures { result ≡ sooner time self.now }
+    {
+        match (self.life.phase, self.verdict.blame) {
+            (Phase::Opening, Some(blame)) => time.min(blame.until),
+            _ => time,
+        }
+    }
+
+    /// The client has ended: notes its last events, and ends the session for the cause that is known.
+    fn close(&mut self, now: Instant) -> TurnPollRet
+        ensures { Closes now self.old self.new result }
+    {
+        if self.drain(now).is_err() {
+            return TurnPollRet::WaitUntil(shortage_end(now));
+        }
+        let why = self.cause_of_end(now);
+        self.life.end(why);
+        TurnPollRet::Closed
+    }
+
+    /// Why the client has ended.
+    fn cause_of_end(&self, now: Instant) -> Why
+        ensures { IsCause now self.now result }
+    {
+        match self.life.phase {
+            Phase::Opening => self.heard.no_address(now),
+            _ => self.heard.end(),
+        }
+    }
+
+    /// The next packet to send, or none, as the client returns it. Call it until it returns none. After the end there is none.
+    ///
+    /// # Errors
+    ///
+    /// If memory allocation fails. The client has ended then, and the session with it.
     pub fn poll_transmit(&mut self, now: Instant) -> Result<Option<Transmit<Data>>, AllocError>
         requires now_in_range { now ≤ 2 ^ 62 }
-        ensures answer { IfOk result (λ packet. packet ≡ (transmit_step now self.old.client).0) }
-        ensures after { OnOk result (self.new ≡ record self.old { client = (transmit_step now self.old.client).1 }) }
-        ensures no_memory { OnErr result (self.new ≡ record self.old { client = closed self.old.client }) }
+        ensures answer { IfOk result (λ packet. packet ≡ (transmitted now self.old).0) }
+        ensures after { OnOk result (self.new ≡ (transmitted now self.old).1) }
+        ensures no_memory { OnErr result (self.new ≡ ended Why.OutOfMemory (record self.old { client = closed self.old.client })) }
         // Memory is needed only for a packet that is due.
         ensures free { OnErr result (IsSome (next_transmit now self.old.client)) }
     {
-        self.client.poll_transmit(now)
-    }
-
-    /// Makes the first request that waits, if fewer than eight of the client are queued. Returns whether there is one.
-    ///
-    /// # Errors
-    ///
-    /// If memory allocation fails. It waits on then.
-    fn make_next(&mut self, now: Instant) -> Result<bool, AllocError>
-        requires now_in_range { now ≤ 2 ^ 62 }
-        ensures ok { IfOk result (λ is_made. (is_made, self.new) ≡ next_made now self.old) }
-        ensures err { OnErr result (NextWaitsOn now self.old self.new) }
-    {
-        let Some(relays) = self.notes.relays else {
-            return Ok(false);
-        };
-        let Some(request) = self.next_to_make() else {
-            return Ok(false);
-        };
-        self.make_waiting(request.key, relays, now)?;
-        Ok(true)
-    }
-
-    /// The request that is made next, if one can be.
-    fn next_to_make(&self) -> Option<OpenRequest>
-        ensures { result ≡ next_to_make self.now }
-    {
-        if self.client.queued_requests() >= MAX_UNSENT {
-            return None;
+        if matches!(self.life.phase, Phase::Over(_)) {
+            return Ok(None);
         }
-        self.notes.book.first_waiting()
-    }
-
-    /// Makes the request for this key, which waits.
-    ///
-    /// # Errors
-    ///
-    /// If memory allocation fails. It waits on then.
-    fn make_waiting(
-        &mut self,
-        key: Key,
-        relays: TransportType,
-        now: Instant,
-    ) -> Result<(), AllocError>
-        requires now_in_range { now ≤ 2 ^ 62 }
-        ensures ok { OnOk result (self.new ≡ waiting_made key relays now self.old) }
-        ensures err { OnErr result (WaitsOn key relays now self.old self.new) }
-    {
-        match make(&mut self.client, relays, key, now) {
-            Made::Queued => {
-                self.notes.book.advance(key, Progress::Queued);
-                Ok(())
+        match self.client.poll_transmit(now) {
+            Ok(packet) => Ok(packet),
+            Err(error) => {
+                self.life.end(Why::OutOfMemory);
+                Err(error)
             }
-            Made::Refused(error) => self.notes.book.settled(key, Outcome::NotMade(error)),
-            Made::NoMemory => Err(AllocError),
         }
     }
 }
