@@ -1,3 +1,4 @@
 pub mod Heard
 pub mod Life
 pub mod Verdict
+pub mod Watch

@@ -1,7 +1,6 @@
 -- How far a session has come, from its opening to its end, and what of that is reported.
 use Rattle.std.specs.Prelude.{ℕ, ◌+◌, ◌-◌, ◌^◌, min, Bool, true, false, if◌then◌else◌, Option, Some, None}
 use Rattle.turn_session_book.specs.declared.causes.Why.{Why}
-use Rattle.turn_session_book.specs.declared.causes.Why.TheVariants as Why
 use Rattle.turn_session_life.specs.declared.life.Life.{Life}
 use Rattle.turn_session_life.specs.declared.life.Phase.{Phase}
 use Rattle.turn_session_life.specs.declared.life.Phase.TheVariants.{Opening, Open, Leaving, Over}

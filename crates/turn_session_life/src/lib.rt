@@ -5,6 +5,7 @@
 //!  a response to a request   -- answered -> Heard    -- no_address, end -> why there is no address, why the client has ended
 //!  an unsigned error         -- refused --> Verdict  -- poll ------------> a time, the end
 //!  the end, or the caller    -- leave ----> Life     -- report_over -----> what is to be reported
+//!  the path to the server    -- poll -----> Watch    -- take_request ----> a request to send, a result to report
 //! ```
 #![tactic(auto)]
 
@@ -12,3 +13,4 @@ pub mod heard;
 pub mod life;
 pub mod responses;
 pub mod verdict;
+pub mod watch;
