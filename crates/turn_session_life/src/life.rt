@@ -2,7 +2,8 @@
 
 ghost use Rattle.std.specs.Prelude.{◌≡◌};
 ghost use Rattle.std.specs.Duration.{as_nanos};
-ghost use Rattle.turn_session_life.specs.Life.{after_deletion, after_end, after_ending, after_heard, after_leave, after_opening, after_over, ending_report, is_due, left_until};
+ghost use Rattle.turn_session_life.specs.Life.{after_deletion, after_end, after_ending, after_heard, after_leave, after_opening, after_over};
+ghost use Rattle.turn_session_life.specs.Life.{ending_report, is_due, left_until};
 ghost use Rattle.turn_session_life.specs.Life.{cause_in, is_running, new_life, over_report, reported};
 
 use std::time::Duration;

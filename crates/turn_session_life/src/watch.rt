@@ -1,7 +1,8 @@
 //! The checks of the path to the server, with the request that is to be sent next and the results that are to be reported.
 
 ghost use Rattle.std.specs.Prelude.{◌≡◌};
-ghost use Rattle.turn_session_life.specs.Watch.{after_look, after_mapped, after_task, next_wait, shared_ticket, watch_step, watched_check, watched_response, watching};
+ghost use Rattle.turn_session_life.specs.Watch.{after_look, after_mapped, after_task, next_wait, shared_ticket, watch_step};
+ghost use Rattle.turn_session_life.specs.Watch.{watched_check, watched_response, watching};
 ghost use Rattle.turn_session_life.specs.Watch.{taken_move, taken_request, taken_result};
 
 use std::net::SocketAddr;

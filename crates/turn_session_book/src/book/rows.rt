@@ -2,7 +2,8 @@
 
 ghost use Rattle.std.specs.Prelude.{◌≡◌, IfOk, IsOk, IsSome, OnErr, OnOk, drop, slice_get};
 ghost use Rattle.turn_session_book.specs.Held.{is_held, is_kept_held, with_mark};
-ghost use Rattle.turn_session_book.specs.OpenRequests.{after_request, first_waiting, request_for, ticket_for, with_hint, with_progress, without_last, without_oldest};
+ghost use Rattle.turn_session_book.specs.OpenRequests.{after_request, first_waiting, request_for, ticket_for, with_hint, with_progress};
+ghost use Rattle.turn_session_book.specs.OpenRequests.{without_last, without_oldest};
 ghost use Rattle.turn_session_book.specs.Rests.{rest_in_force};
 
 use crate::book::Book;
