@@ -6,7 +6,7 @@ use crate::tags::Tag;
 use turn_stun::instant::Instant;
 
 /// What a session answers to a request of the caller.
-#[derive(Clone, Copy, Debug)]
+#[derive(Clone, Copy, Debug, PartialEq, Eq)]
 pub enum Answer {
     /// The server has granted it already. Nothing is sent.
     Granted,
@@ -39,7 +39,7 @@ pub enum CallError {
 }
 
 /// What became of a request. There is one outcome for each ticket.
-#[derive(Clone, Copy, Debug)]
+#[derive(Clone, Copy, Debug, PartialEq, Eq)]
 pub enum Outcome {
     /// The server granted it.
     Granted,

@@ -6,7 +6,7 @@ use crate::tags::Tag;
 use std::time::Duration;
 
 /// Why a session ends, or has ended.
-#[derive(Clone, Copy, Debug)]
+#[derive(Clone, Copy, Debug, PartialEq, Eq)]
 pub enum Why {
     /// The caller left.
     Closed,

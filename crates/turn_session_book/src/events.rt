@@ -8,7 +8,7 @@ use std::net::SocketAddr;
 use turn_types::AddressFamily;
 
 /// Something that happened in a session.
-#[derive(Clone, Copy, Debug)]
+#[derive(Clone, Copy, Debug, PartialEq, Eq)]
 pub enum Event {
     /// The first response of the server was received. Over a stream: it is connected.
     Heard,
