@@ -1,10 +1,11 @@
 -- Once nothing is to be done on the path, what is due next is later.
-use Rattle.std.proofs.Common.{◌≡◌, ℕ, ◌+◌, ◌-◌, ◌^◌, ◌<◌, ◌≤◌, Bool, true, false, min, Some, None, refl, sym, ap, ◌∙◌, subst, inl, inr, arith, ltb}
+use Rattle.std.proofs.Common.{◌≡◌, ℕ, ◌+◌, ◌-◌, ◌^◌, ◌<◌, min, Some, None, refl, sym, ap, ◌∙◌, subst, inl, inr, arith, ltb}
 use Rattle.std.specs.Prelude.{Option, ◌⊎◌}
-use Rattle.std.proofs.lemmas.Bool.{cases_Bool, ltb-true, ltb-false}
-use Rattle.turn_session_path.specs.Asked.{asked_step, asked_with, behind_round}
+use Rattle.std.proofs.lemmas.Bool.{cases_Bool, ltb-true}
+use Rattle.turn_session_path.specs.Asked.{asked_with}
 use Rattle.turn_session_path.specs.PathDue.{IsLater, check_due, errors_due, full_due, path_due, probe_due, sooner}
-use Rattle.turn_session_path.specs.PathPoll.{begin_step, check_task, error_request_task, errors_task, full_task, or_else, path_step, probe_task, round_task}
+use Rattle.turn_session_path.specs.PathPoll.{begin_step, begun_step, check_task, counts, end_step, error_request_task, errors_task, full_task, or_else, path_step, probe_task, round_task}
+use Rattle.turn_session_path.specs.Probes.{after_silence}
 use Rattle.turn_session_path.specs.Rounds.{due_time}
 use Rattle.turn_session_path.specs.SocketErrors.{run_until}
 use Rattle.turn_session_path.specs.declared.asked.Asked.{Asked}
@@ -76,25 +77,55 @@ check-none now p none = by p.check refl
       ]
     ]
 
--- a round that is under way
-round-none : (now : ℕ) (probes : Probes) (asked : Asked) (p : Path) → (round_task now probes asked p).0 ≡ None
-    → ((round_task now probes asked p).1 ≡ p) × (now < due_time asked.round)
-round-none now probes asked p none = elim (cases_Bool (ltb now (due_time asked.round))) [
-  | inl before ↦ (rw before refl, ltb-true _ _ before)
-  | inr over ↦ elim (cases_Bool (ltb 2 asked.round.place)) [
-    | inl past ↦ absurd (let ends = rw (over, past) at none in cc)
-    | inr sends ↦ absurd (let ends = rw (over, sends) at none in cc)
-  ]
-]
+-- a path in which nothing but the probes may differ
+abbrev Beside : Path → Path → Type 0
+Beside p q = (errors_due q ≡ errors_due p) × ((full_due q.full.since ≡ full_due p.full.since) × (check_due q.check ≡ check_due p.check))
+
+-- the probes wait: the path is as it was, and the round is due later, or a round that does not count is over
+abbrev Waits : ℕ → Option ℕ → Path → Path → Type 0
+Waits now due p q = ((q ≡ p) × IsLater now due) ⊎ (Beside p q × IsLater now (probe_due q.prober))
 
 -- a round that begins sends at once
+begun-some : (now : ℕ) (probes : Probes) (p : Path) → (begun_step now probes p).0 ≡ None → ⊥
+begun-some now probes p none = elim (cases_Bool (ltb now (due_time (asked_with probes.asks now p.ids).round))) [
+  | inl before ↦ let later = ltb-true _ _ before in omega (arith, later)
+  | inr over ↦ let ends = rw over at none in cc
+]
+
 begin-none : (now : ℕ) (probes : Probes) (p : Path) → (begin_step now probes p).0 ≡ None → ((begin_step now probes p).1 ≡ p) × (now < probes.due)
 begin-none now probes p none = elim (cases_Bool (ltb now probes.due)) [
   | inl before ↦ (rw before refl, ltb-true _ _ before)
   | inr over ↦
-      let begun : (round_task now probes (asked_with probes.asks now p.ids) (record p { ids = behind_round p.ids })).0 ≡ None = rw over at none in
-      let later = (round-none now probes (asked_with probes.asks now p.ids) (record p { ids = behind_round p.ids }) begun).1 in
-      absurd (omega (arith, later))
+      let begun : (begun_step now probes p).0 ≡ None = rw over at none in
+      absurd (begun-some now probes p begun)
+]
+
+-- a round that is over
+end-none : (now : ℕ) (probes : Probes) (began : ℕ) (p : Path) → (end_step now probes began p).0 ≡ None
+    → Beside p (end_step now probes began p).1 × IsLater now (probe_due (end_step now probes began p).1.prober)
+end-none now probes began p none = elim (cases_Bool (counts began p)) [
+  | inl counted ↦ absurd (let ends = rw counted at none in cc)
+  | inr late ↦
+      let after = after_silence (counts began p) now probes in
+      let ended : Path = record p { prober = Some (record { probes = after; asked = None }) } in
+      let is : end_step now probes began p ≡ begin_step now after ended = rw late refl in
+      let begins = begin-none now after ended (subst (λ (x : Option PathTask × Path). x.0 ≡ None) is none) in
+      subst (λ (q : Path). Beside p q × IsLater now (probe_due q.prober)) (sym (ap (λ (x : Option PathTask × Path). x.1) is ∙ begins.0))
+      ((refl, (refl, refl)), begins.1)
+]
+
+-- a round that is under way
+round-none : (now : ℕ) (probes : Probes) (asked : Asked) (p : Path) → (round_task now probes asked p).0 ≡ None
+    → Waits now (Some (due_time asked.round)) p (round_task now probes asked p).1
+round-none now probes asked p none = elim (cases_Bool (ltb now (due_time asked.round))) [
+  | inl before ↦ inl (rw before refl, ltb-true _ _ before)
+  | inr over ↦ elim (cases_Bool (ltb 2 asked.round.place)) [
+    | inl past ↦
+        let is : round_task now probes asked p ≡ end_step now probes asked.round.began p = rw (over, past) refl in
+        inr (subst (λ (x : Option PathTask × Path). Beside p x.1 × IsLater now (probe_due x.1.prober)) (sym is)
+        (end-none now probes asked.round.began p (subst (λ (x : Option PathTask × Path). x.0 ≡ None) is none)))
+    | inr sends ↦ absurd (let ends = rw (over, sends) at none in cc)
+  ]
 ]
 
 -- a probe that is under way, or that begins
@@ -107,9 +138,9 @@ asked_due probes (Some asked) = Some (due_time asked.round)
 asked_due probes None = Some probes.due
 
 round_by-none : (now : ℕ) (probes : Probes) (asked : Option Asked) (p : Path) → (round_by now probes asked p).0 ≡ None
-    → ((round_by now probes asked p).1 ≡ p) × IsLater now (asked_due probes asked)
+    → Waits now (asked_due probes asked) p (round_by now probes asked p).1
 round_by-none now probes (Some asked) p none = round-none now probes asked p none
-round_by-none now probes None p none = begin-none now probes p none
+round_by-none now probes None p none = inl (begin-none now probes p none)
 
 abbrev probe_by : ℕ → Option Prober → Path → Option PathTask × Path
 probe_by now None p = (None, p)
@@ -120,8 +151,8 @@ prober_due None = None
 prober_due (Some prober) = asked_due prober.probes prober.asked
 
 probe_by-none : (now : ℕ) (prober : Option Prober) (p : Path) → (probe_by now prober p).0 ≡ None
-    → ((probe_by now prober p).1 ≡ p) × IsLater now (prober_due prober)
-probe_by-none now None p none = (refl, tt)
+    → Waits now (prober_due prober) p (probe_by now prober p).1
+probe_by-none now None p none = inl (refl, tt)
 probe_by-none now (Some prober) p none = round_by-none now prober.probes prober.asked p none
 
 same_round : (now : ℕ) (probes : Probes) (asked : Option Asked) (p : Path)
@@ -146,11 +177,21 @@ same_due : (prober : Option Prober) → probe_due prober ≡ prober_due prober
 same_due None = refl
 same_due (Some q) = due_round q.probes q.asked
 
-probe-none : (now : ℕ) (p : Path) → (probe_task now p).0 ≡ None → ((probe_task now p).1 ≡ p) × IsLater now (probe_due p.prober)
+-- either way they are due later
+waits-later : (now : ℕ) (p q : Path) → Waits now (probe_due p.prober) p q → Beside p q × IsLater now (probe_due q.prober)
+waits-later now p q (inl same) =
+    subst (λ (r : Path). Beside p r × IsLater now (probe_due r.prober)) (sym same.0) ((refl, (refl, refl)), same.1)
+waits-later now p q (inr over) = over
+
+probe-none : (now : ℕ) (p : Path) → (probe_task now p).0 ≡ None
+    → Beside p (probe_task now p).1 × IsLater now (probe_due (probe_task now p).1.prober)
 probe-none now p none =
     let same : probe_task now p ≡ probe_by now p.prober p = same_probe now p.prober p in
     let parts = probe_by-none now p.prober p (subst (λ (x : Option PathTask × Path). x.0 ≡ None) same none) in
-    (ap (λ (x : Option PathTask × Path). x.1) same ∙ parts.0, subst (λ (time : Option ℕ). IsLater now time) (sym (same_due p.prober)) parts.1)
+    let due : Waits now (probe_due p.prober) p (probe_by now p.prober p).1
+    = subst (λ (time : Option ℕ). Waits now time p (probe_by now p.prober p).1) (sym (same_due p.prober)) parts in
+    waits-later now p (probe_task now p).1
+    (subst (λ (x : Option PathTask × Path). Waits now (probe_due p.prober) p x.1) (sym same) due)
 
 -- ---- all of it
 
@@ -194,9 +235,13 @@ rests now p none =
     let check = check-none now b four.0 in
     let probe = probe-none now d none-four in
     let all : path_step now p ≡ probe_task now d = one.1 ∙ (two.1 ∙ (three.1 ∙ four.1)) in
-    let last : (path_step now p).1 ≡ a = ap (λ (x : Option PathTask × Path). x.1) all ∙ (probe.0 ∙ (check.0 ∙ sent.0)) in
-    let a-full : IsLater now (full_due a.full.since) = subst (λ (q : Path). IsLater now (full_due q.full.since)) sent.0 full in
-    let a-check : IsLater now (check_due a.check) = subst (λ (q : Path). IsLater now (check_due q.check)) sent.0 check.1 in
-    let a-probe : IsLater now (probe_due a.prober) = subst (λ (q : Path). IsLater now (probe_due q.prober)) (check.0 ∙ sent.0) probe.1 in
-    subst (λ (q : Path). IsLater now (path_due q)) (sym last)
-    (sooner-later now _ _ (sooner-later now _ _ (after-errors now p one.0 two.0) a-full) (sooner-later now _ _ a-check a-probe))
+    let q = (probe_task now d).1 in
+    let same-d : d ≡ a = check.0 ∙ sent.0 in
+    let d-errors : IsLater now (errors_due d) = subst (λ (r : Path). IsLater now (errors_due r)) (sym same-d) (after-errors now p one.0 two.0) in
+    let d-full : IsLater now (full_due d.full.since) = subst (λ (r : Path). IsLater now (full_due r.full.since)) (sym check.0) full in
+    let d-check : IsLater now (check_due d.check) = subst (λ (r : Path). IsLater now (check_due r.check)) (sym check.0) check.1 in
+    let q-errors : IsLater now (errors_due q) = subst (λ (time : Option ℕ). IsLater now time) (sym probe.0.0) d-errors in
+    let q-full : IsLater now (full_due q.full.since) = subst (λ (time : Option ℕ). IsLater now time) (sym probe.0.1.0) d-full in
+    let q-check : IsLater now (check_due q.check) = subst (λ (time : Option ℕ). IsLater now time) (sym probe.0.1.1) d-check in
+    subst (λ (r : Path). IsLater now (path_due r)) (sym (ap (λ (x : Option PathTask × Path). x.1) all))
+    (sooner-later now _ _ (sooner-later now _ _ q-errors q-full) (sooner-later now _ _ q-check probe.1))

@@ -79,11 +79,26 @@ counts began p = by p.sent p.transport
     by (Some sent) Tcp = nat_le (min (sent + 10_000_000_000) (2 ^ 63 - 1)) began
     by _ _ = true
 
--- a round without a response: the third in a row ends the session, and after another the allocation is in doubt
+-- the round that begins now, and its first request
+abbrev pub begun_step : ℕ → Probes → Path → Option PathTask × Path
+begun_step now probes p = by (asked_step p.transport now (asked_with probes.asks now p.ids))
+  where
+    by : AskedStep × Asked → Option PathTask × Path
+    by (Asking.Send request id, after) =
+        (Some (Send request id), record p { prober = Some (record { probes = probes; asked = Some after }); ids = behind_round p.ids })
+    by (_, after) = (None, record p { ids = behind_round p.ids })
+
+-- a round begins when it is due
+abbrev pub begin_step : ℕ → Probes → Path → Option PathTask × Path
+begin_step now probes p = if nat_lt now probes.due then (None, p) else begun_step now probes p
+
+-- a round without a response: the third in a row ends the session, and after another the allocation is in doubt; one that does not
+-- count leads to nothing, so the next one begins if it is due
 abbrev pub end_step : ℕ → Probes → ℕ → Path → Option PathTask × Path
 end_step now probes began p =
     let after = after_silence (counts began p) now probes in
-    (Some (if has_failed after then End (Why.Unanswered 3) else Doubt), record p { prober = Some (record { probes = after; asked = None }) })
+    let ended = record p { prober = Some (record { probes = after; asked = None }) } in
+    if counts began p then (Some (if has_failed after then End (Why.Unanswered 3) else Doubt), ended) else begin_step now after ended
 
 abbrev pub round_task : ℕ → Probes → Asked → Path → Option PathTask × Path
 round_task now probes asked p = by (asked_step p.transport now asked)
@@ -93,12 +108,6 @@ round_task now probes asked p = by (asked_step p.transport now asked)
         (Some (Send request id), record p { prober = Some (record { probes = probes; asked = Some after }) })
     by (Asking.WaitUntil time, after) = (None, p)
     by (Asking.Unanswered, after) = end_step now probes after.round.began p
-
--- a round begins when it is due
-abbrev pub begin_step : ℕ → Probes → Path → Option PathTask × Path
-begin_step now probes p =
-    if nat_lt now probes.due then (None, p)
-    else round_task now probes (asked_with probes.asks now p.ids) (record p { ids = behind_round p.ids })
 
 abbrev pub probe_task : ℕ → Path → Option PathTask × Path
 probe_task now p = by p.prober

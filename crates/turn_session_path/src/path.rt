@@ -40,7 +40,7 @@ pub enum ErrorRequest {
 }
 
 /// What the path leads to.
-#[derive(Clone, Copy, Debug)]
+#[derive(Clone, Copy, Debug, PartialEq, Eq)]
 pub enum PathTask {
     /// This request is to be sent now, with this ID. It is not signed, and has no attributes.
     Send(CheckRequest, TransactionId),

@@ -3,7 +3,7 @@
 ghost use Rattle.std.specs.Prelude.{◌≡◌};
 ghost use Rattle.turn_session_path.specs.PathDue.{IsLater, path_due};
 ghost use Rattle.turn_session_path.specs.PathPoll.{check_task, error_request_task, errors_task, full_task, path_step, probe_task};
-ghost use Rattle.turn_session_path.specs.PathPoll.{begin_step, counts, end_step, round_task};
+ghost use Rattle.turn_session_path.specs.PathPoll.{begin_step, begun_step, counts, end_step, round_task};
 
 use crate::asked::{Asked, AskedStep};
 use crate::constants::{RUN, SENDING};
@@ -130,8 +130,24 @@ impl Path {
         if now < probes.due {
             return None;
         }
-        let asked = Asked::new(probes.asks, &mut self.ids, now);
-        self.poll_round(probes, asked, now)
+        self.first_of_round(probes, now)
+    }
+
+    /// The first request of a round that begins now.
+    fn first_of_round(&mut self, probes: Probes, now: Instant) -> Option<PathTask>
+        ensures { (result, self.new) ≡ begun_step now probes self.old }
+    {
+        let mut asked = Asked::new(probes.asks, &mut self.ids, now);
+        match asked.poll(self.transport, now) {
+            AskedStep::Send(request, id) => {
+                self.prober = Some(Prober {
+                    probes,
+                    asked: Some(asked),
+                });
+                Some(PathTask::Send(request, id))
+            }
+            _ => None,
+        }
     }
 
     /// The next request of this round of a probe, or its end.
@@ -152,16 +168,20 @@ impl Path {
         }
     }
 
-    /// The end of a round that had no response.
+    /// The end of a round that had no response. One that does not count leads to nothing, and the next one begins if it is due.
     fn end_round(&mut self, probes: Probes, began: Instant, now: Instant) -> Option<PathTask>
         ensures { (result, self.new) ≡ end_step now probes began self.old }
     {
+        let counts = self.counts(began);
         let mut after = probes;
-        let is_over = after.unanswered(self.counts(began), now);
+        let is_over = after.unanswered(counts, now);
         self.prober = Some(Prober {
             probes: after,
             asked: None,
         });
+        if !counts {
+            return self.begin_probe(after, now);
+        }
         if is_over {
             return Some(PathTask::End(Why::Unanswered(RUN)));
         }

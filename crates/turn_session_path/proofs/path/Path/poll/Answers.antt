@@ -1,4 +1,4 @@
-use Rattle.std.proofs.Common.{◌≡◌, ◌∙◌, sym, ap, subst}
+use Rattle.std.proofs.Common.{◌∙◌, sym, ap, subst}
 use Rattle.std.specs.Prelude.{Option}
 use Rattle.turn_session_path.specs.PathDue.{IsLater, path_due}
 use Rattle.turn_session_path.specs.declared.path.Path.{Path}
