@@ -119,7 +119,6 @@ class Signals(unittest.TestCase):
             thread.join(12)
         self.assertEqual(ended, ["the client was closed"] * 2)
 
-
     def test_an_end_that_is_not_passed_on(self) -> None:
         """Since the thread that learns of it is interrupted then: each other one looks again after a while."""
         inbox, found = threads.ThreadInbox(1, None), []  # type: threads.ThreadInbox, List[object]
