@@ -2,7 +2,8 @@
 /* usage: stack
 
    How many bytes of the stack each call takes: it is made in a thread whose stack was painted before, and the paint that is gone is
-   counted, less that of a thread which does nothing. No call takes more than docs/LIBRARY.md ("Stack") says of it. It is to be linked
+   counted, less that of a thread which does nothing. No call takes more than docs/LIBRARY.md ("Stack") says of it, and none writes
+   below the stack of its thread, which is as small as that page allows; what lies below is painted too. It is to be linked
    with -z now, since a function that is bound when it is first called takes 2 KB for that. */
 #include "bench.h"
 #include "yarrowdoor.h"
@@ -13,10 +14,10 @@
 
 size_t bench_answer(const uint8_t *request, size_t len, uint8_t *room, size_t room_len);
 
-enum { STACK = 256 * 1024, PAINT = 0xa5, ROOM = 65556 };
+enum { STACK = 256 * 1024, THREAD = 32 * 1024, PAINT = 0xa5, ROOM = 65556 };
 
 /* The most that a new client takes, and each other call. */
-enum { MOST_OF_NEW = 40 * 1024, MOST = 16 * 1024 };
+enum { MOST_OF_NEW = 8 * 1024, MOST = 16 * 1024 };
 
 static const uint64_t PAUSE = 50000000;
 
@@ -124,7 +125,8 @@ static size_t painted_over(void *(*call)(void *))
     pthread_t thread;
     size_t at = 0;
     memset(stack, PAINT, STACK);
-    check(pthread_attr_init(&attributes) == 0 && pthread_attr_setstack(&attributes, stack, STACK) == 0, "a stack");
+    check(pthread_attr_init(&attributes) == 0 && pthread_attr_setstack(&attributes, stack + STACK - THREAD, THREAD) == 0,
+          "a stack");
     check(pthread_create(&thread, &attributes, call, NULL) == 0 && pthread_join(thread, NULL) == 0, "a thread");
     pthread_attr_destroy(&attributes);
     while (at < STACK && stack[at] == PAINT) {
@@ -136,13 +138,13 @@ static size_t painted_over(void *(*call)(void *))
 /* Makes a call, and holds what it takes to the most that is said of it. */
 static void measure(const char *name, void *(*call)(void *), size_t most)
 {
-    size_t taken = painted_over(call), spent = painted_over(nothing);
-    taken = taken > spent ? taken - spent : 0;
+    size_t all = painted_over(call), spent = painted_over(nothing), taken = all > spent ? all - spent : 0;
     printf("%s: %zu bytes of the stack\n", name, taken);
     if (taken > most) {
         printf("%s may take %zu\n", name, most);
         exit(1);
     }
+    check(all <= THREAD, "it writes below the stack of its thread");
 }
 
 /* Sends what is due at the next time of the pause, and gets the answer. */

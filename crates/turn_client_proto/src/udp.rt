@@ -33,7 +33,7 @@ pub type TurnClientUdp = TurnClientOver<TurnClientUdpProtocol>;
 /// `State` of the client.
 #[derive(Debug, Drop)]
 pub struct TurnClientUdpProtocol {
-    control: TurnClientProtocol,
+    control: Box<TurnClientProtocol>,
 }
 
 impl Model for TurnClientUdpProtocol {
@@ -42,7 +42,7 @@ impl Model for TurnClientUdpProtocol {
 
     ghost Value = { State };
 
-    ghost view = { λ c. record c.control { streams = [] } };
+    ghost view = { λ c. record c.control.value { streams = [] } };
 }
 
 impl TurnClientUdp {
@@ -66,7 +66,7 @@ impl TurnClientUdp {
         requires { config.allocation_transport ≡ TransportType.Udp }
         ensures { IfOk result (λ client. client ≡ initial TransportType.Udp local remote config seed) }
     {
-        let control = TurnClientProtocol::new(
+        let control = TurnClientProtocol::boxed(
             alloc,
             TransportType::Udp,
             local,

@@ -28,7 +28,7 @@ use turn_stun::transport::TransportType;
 #[derive(Debug, Drop)]
 pub struct TurnClientTcpProtocol {
     alloc: Global,
-    control: TurnClientProtocol,
+    control: Box<TurnClientProtocol>,
     streams: Streams,
 }
 
@@ -37,7 +37,7 @@ impl Model for TurnClientTcpProtocol {
 
     ghost Value = { State };
 
-    ghost view = { λ c. record c.control { streams = c.streams.list } };
+    ghost view = { λ c. record c.control.value { streams = c.streams.list } };
 }
 
 impl TurnClientTcpProtocol {
@@ -57,7 +57,7 @@ impl TurnClientTcpProtocol {
         ensures { IfOk result (λ client. client ≡ initial TransportType.Tcp local remote config seed) }
     {
         let streams = Streams::new(alloc, TransportType::Tcp, local)?;
-        let control = TurnClientProtocol::new(
+        let control = TurnClientProtocol::boxed(
             alloc,
             TransportType::Tcp,
             local,

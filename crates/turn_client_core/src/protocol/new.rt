@@ -18,26 +18,29 @@ impl TurnClientProtocol {
     /// A client that sends from `local` to the server at `remote`, and draws its transaction IDs from
     /// this seed. It has requested nothing yet.
     ///
+    /// It is in a box, since it has two kilobytes: as a value it would be copied on the stack by each function that it passes
+    /// through, several times.
+    ///
     /// RFC 8489, section 5, requires IDs that cannot be guessed. They are only as unpredictable as the
     /// seed is secret.
     ///
     /// # Errors
     ///
     /// `AllocError` if memory allocation fails.
-    pub fn new(
+    pub fn boxed(
         alloc: Global,
         transport: TransportType,
         local: SocketAddr,
         remote: SocketAddr,
         config: TurnConfig,
         seed: [u8; 32],
-    ) -> Result<TurnClientProtocol, AllocError>
-        ensures { IfOk result (λ client. client ≡ record (initial transport local remote config seed) { streams = [] }) }
+    ) -> Result<Box<TurnClientProtocol>, AllocError>
+        ensures { IfOk result (λ client. client.value ≡ record (initial transport local remote config seed) { streams = [] }) }
     {
         let auth = auth_for(alloc, &config)?;
         let families = SmallVec::from_slice(alloc, config.address_families())?;
         let timers = config.request_timers();
-        Ok(TurnClientProtocol {
+        let client = TurnClientProtocol {
             alloc,
             phase: Phase::New,
             families,
@@ -46,7 +49,11 @@ impl TurnClientProtocol {
             outbox: Outbox::new(alloc, transport, local, remote, timers, seed),
             challenges: 0,
             config,
-        })
+        };
+        match Box::new(alloc, client) {
+            Ok(client) => Ok(client),
+            Err(failed) => Err(failed.into()),
+        }
     }
 }
 

@@ -1,4 +1,4 @@
-use Rattle.std.proofs.Common.{◌≡◌, ◌∙◌, ℕ, List, not, true, ap, refl, subst, sym}
+use Rattle.std.proofs.Common.{◌≡◌, ◌∙◌, ℕ, List, [], not, true, ap, refl, subst, sym}
 use Rattle.turn_client_api.specs.Memory.{packet_takes_memory}
 use Rattle.turn_client_api.specs.Payloads.{Outcome, datagram_step}
 use Rattle.turn_client_api.specs.State.{State}
@@ -9,12 +9,16 @@ use Rattle.turn_client_proto.proofs.udp.TurnClientUdpProtocolCarrier.receive.Goa
 
 -- the control machine processes the datagram, and no stream is beside it
 
+abbrev without_streams : State → State
+without_streams s = record s { streams = [] }
+
 pub returns-clause-answer : goal.returns-clause-answer
 returns-clause-answer g c =
     let packet = c.args.transmit in
     let bytes = g.T.AsSlice.items packet.payload in
-    let was = c.self.inside.control in
-    let led = without-streams c.self.view_is c.datagram.new.self in
+    let was = c.deref_mut.result.now in
+    let view = ap without_streams c.deref_mut.ensures.value ∙ c.self.view_is in
+    let led = without-streams view c.datagram.new.self in
     let is = own-datagram packet.transport packet.from packet.to bytes c.args.self.now c.args.now c.requires.fit.carrier (sym c.is_own.ensures ∙ c.if-not-is_own.false) in
     elim c.match-datagram.branch [
       | in-Ok w ↦
@@ -27,13 +31,14 @@ pub returns-clause-after : goal.returns-clause-after
 returns-clause-after g c =
     let packet = c.args.transmit in
     let bytes = g.T.AsSlice.items packet.payload in
-    let was = c.self.inside.control in
+    let was = c.deref_mut.result.now in
+    let view = ap without_streams c.deref_mut.ensures.value ∙ c.self.view_is in
     let t = c.datagram.new.self in
     let is = own-datagram packet.transport packet.from packet.to bytes c.args.self.now c.args.now c.requires.fit.carrier (sym c.is_own.ensures ∙ c.if-not-is_own.false) in
     elim c.match-datagram.branch [
       | in-Ok w ↦
           let left = subst (λ (b : List ℕ). t ≡ (datagram_step b c.args.now was).1) c.as_slice.ensures w.in-Ok.ensures.after in
-          rw w.result-is (datagram-left (without-streams c.self.view_is t) bytes c.args.now left ∙ ap (λ (r : Outcome × State). r.1) (sym is))
+          rw w.result-is (datagram-left (without-streams view t) bytes c.args.now left ∙ ap (λ (r : Outcome × State). r.1) (sym is))
       | in-Err w ↦ rw w.result-is tt
     ]
 
@@ -41,11 +46,12 @@ pub returns-clause-free : goal.returns-clause-free
 returns-clause-free g c =
     let packet = c.args.transmit in
     let bytes = g.T.AsSlice.items packet.payload in
-    let was = c.self.inside.control in
+    let was = c.deref_mut.result.now in
+    let view = ap without_streams c.deref_mut.ensures.value ∙ c.self.view_is in
     let takes_none = datagram-takes packet.transport packet.from packet.to bytes c.args.self.now c.requires.fit.carrier (sym c.is_own.ensures ∙ c.if-not-is_own.false) in
     elim c.match-datagram.branch [
       | in-Ok w ↦ rw w.result-is (λ takes. refl)
       | in-Err w ↦
           let wanted = subst (λ (b : List ℕ). packet_takes_memory b was ≡ true) c.as_slice.ensures w.in-Err.ensures.wanted in
-          rw w.result-is (λ takes. sym (ap not (datagram-memory (without-streams c.self.view_is c.datagram.new.self) bytes wanted)) ∙ (sym takes_none ∙ takes))
+          rw w.result-is (λ takes. sym (ap not (datagram-memory (without-streams view c.datagram.new.self) bytes wanted)) ∙ (sym takes_none ∙ takes))
     ]

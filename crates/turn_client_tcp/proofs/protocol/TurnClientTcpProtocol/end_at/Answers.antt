@@ -8,4 +8,5 @@ use Rattle.turn_client_tcp.proofs.protocol.TurnClientTcpProtocol.end_at.Goals as
 pub returns : goal.returns
 returns c =
     ap (with_streams c.break_at.new.self.list) c.close.ensures
-    ∙ (ap closed (c.break_at.ensures c.self.inside.control) ∙ ap (λ (s : State). closed (broken_at c.args.local s)) c.self.view_is)
+    ∙ ap (λ (s : State). with_streams c.break_at.new.self.list (closed s)) c.deref_mut.ensures.value
+    ∙ (ap closed (c.break_at.ensures c.self.inside.control.value) ∙ ap (λ (s : State). closed (broken_at c.args.local s)) c.self.view_is)

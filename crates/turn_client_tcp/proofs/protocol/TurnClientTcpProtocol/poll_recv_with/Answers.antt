@@ -11,7 +11,9 @@ pub returns-clause-answer : goal.returns-clause-answer
 returns-clause-answer g c =
     let frame = c.in-Some.frame in
     let given = data-given c.args.now c.args.self.now _ (sym c.in-Some.ensures.payload) in
-    let transport : c.allocation_transport.result ≡ c.args.self.now.config.allocation_transport = c.allocation_transport.ensures ∙ ap (λ (s : State). s.config.allocation_transport) c.self.view_is in
+    let transport : c.allocation_transport.result ≡ c.args.self.now.config.allocation_transport =
+    c.allocation_transport.ensures
+    ∙ (ap (λ (s : State). s.config.allocation_transport) c.deref.ensures ∙ ap (λ (s : State). s.config.allocation_transport) c.self.view_is) in
     rw (ap (λ (p : Option Payload × State). p.0) given)
     (frame.payload, refl, subst (λ (t : TransportType). g.F.FnOnce.post c.args.read (t, (frame.peer.now, (frame.payload, tt))) c.read-given.result) transport c.read-given.ensures)
 

@@ -41,7 +41,7 @@ pub returns-in-Broken-clause-answer : goal.returns-in-Broken-clause-answer
 returns-in-Broken-clause-answer g c =
     let put = c.put.ensures (the_view c.self.inside) ∙ ap (left_by c.args.stream) c.self.view_is in
     let same = whole-broken c.args.stream (g.T.AsSlice.items c.args.transmit.payload) c.args.now c.args.self.now
-    (with_streams c.put.new.self.list c.self.inside.control) c.broken_piece.new.self c.local-local.result (sym c.mode.ensures ∙ c.in-Broken.is) c.local-local.ensures put in
+    (with_streams c.put.new.self.list c.self.inside.control.value) c.broken_piece.new.self c.local-local.result (sym c.mode.ensures ∙ c.in-Broken.is) c.local-local.ensures put in
     subst (λ (p : Outcome × State). IfOk c.broken_piece.result (λ given. outcome_of given ≡ p.0)) same c.broken_piece.ensures.answer
 
 pub returns-in-Broken-clause-hands_back : goal.returns-in-Broken-clause-hands_back
@@ -51,7 +51,7 @@ pub returns-in-Broken-clause-after : goal.returns-in-Broken-clause-after
 returns-in-Broken-clause-after g c =
     let put = c.put.ensures (the_view c.self.inside) ∙ ap (left_by c.args.stream) c.self.view_is in
     let same = whole-broken c.args.stream (g.T.AsSlice.items c.args.transmit.payload) c.args.now c.args.self.now
-    (with_streams c.put.new.self.list c.self.inside.control) c.broken_piece.new.self c.local-local.result (sym c.mode.ensures ∙ c.in-Broken.is) c.local-local.ensures put in
+    (with_streams c.put.new.self.list c.self.inside.control.value) c.broken_piece.new.self c.local-local.result (sym c.mode.ensures ∙ c.in-Broken.is) c.local-local.ensures put in
     subst (λ (p : Outcome × State). OnOk c.broken_piece.result (c.broken_piece.new.self ≡ p.1)) same c.broken_piece.ensures.after
 
 pub returns-in-Broken-clause-no_memory : goal.returns-in-Broken-clause-no_memory
@@ -59,7 +59,7 @@ returns-in-Broken-clause-no_memory g c =
     let put = c.put.ensures (the_view c.self.inside) ∙ ap (left_by c.args.stream) c.self.view_is in
     on_err_weaker c.broken_piece.result
     (ends-broken c.args.stream (g.T.AsSlice.items c.args.transmit.payload) c.args.now c.args.self.now
-    (with_streams c.put.new.self.list c.self.inside.control) c.broken_piece.new.self c.local-local.result (sym c.mode.ensures ∙ c.in-Broken.is) c.local-local.ensures put)
+    (with_streams c.put.new.self.list c.self.inside.control.value) c.broken_piece.new.self c.local-local.result (sym c.mode.ensures ∙ c.in-Broken.is) c.local-local.ensures put)
     c.broken_piece.ensures.no_memory
 
 pub returns-in-Broken-clause-free_broken : goal.returns-in-Broken-clause-free_broken
@@ -67,5 +67,5 @@ returns-in-Broken-clause-free_broken g c = λ broken rest.
     let put = c.put.ensures (the_view c.self.inside) ∙ ap (left_by c.args.stream) c.self.view_is in
     no-err c.broken_piece.result
     (on_err_weaker c.broken_piece.result
-    (λ ends. rests-end c.args.now (with_streams c.put.new.self.list c.self.inside.control) c.broken_piece.new.self
+    (λ ends. rests-end c.args.now (with_streams c.put.new.self.list c.self.inside.control.value) c.broken_piece.new.self
     (subst (λ (u : State). find is_ready u.streams ≡ None) (sym put) rest) ends.1) c.broken_piece.ensures.no_memory)

@@ -27,7 +27,7 @@ process_detached-requires c =
 pub loop-stream-smaller : goal.loop-stream-smaller
 loop-stream-smaller c =
     let e : find is_ready c.loop-stream.self.streams ≡ Some c.in-Some.stream = (ap (λ (s : State). find is_ready s.streams) (sym c.self.view_is) ∙ (sym c.take_ready.ensures.stream ∙ c.in-Some.is)) in
-    let out : with_streams c.take_ready.new.self.list c.self.inside.control ≡ with_bytes c.in-Some.stream.local [] c.loop-stream.self =
+    let out : with_streams c.take_ready.new.self.list c.self.inside.control.value ≡ with_bytes c.in-Some.stream.local [] c.loop-stream.self =
     c.take_ready.ensures.after (the_view c.self.inside) ∙ (ap (taken_out c.take_ready.result) c.self.view_is ∙ ap (λ o. taken_out o c.loop-stream.self) c.in-Some.is) in
     let is : c.process_detached.new.self ≡ (next_frame_step c.in-Some.stream c.args.now c.loop-stream.self).1 =
     c.in-Ok-None.ensures.after ∙ ap (λ t. (detached_frame_step c.in-Some.stream c.args.now t).1) out in
@@ -36,7 +36,7 @@ loop-stream-smaller c =
 pub loop-stream-preserved : goal.loop-stream-preserved
 loop-stream-preserved c =
     let e : find is_ready c.loop-stream.self.streams ≡ Some c.in-Some.stream = (ap (λ (s : State). find is_ready s.streams) (sym c.self.view_is) ∙ (sym c.take_ready.ensures.stream ∙ c.in-Some.is)) in
-    let out : with_streams c.take_ready.new.self.list c.self.inside.control ≡ with_bytes c.in-Some.stream.local [] c.loop-stream.self =
+    let out : with_streams c.take_ready.new.self.list c.self.inside.control.value ≡ with_bytes c.in-Some.stream.local [] c.loop-stream.self =
     c.take_ready.ensures.after (the_view c.self.inside) ∙ (ap (taken_out c.take_ready.result) c.self.view_is ∙ ap (λ o. taken_out o c.loop-stream.self) c.in-Some.is) in
     let is : c.process_detached.new.self ≡ (next_frame_step c.in-Some.stream c.args.now c.loop-stream.self).1 =
     c.in-Ok-None.ensures.after ∙ ap (λ t. (detached_frame_step c.in-Some.stream c.args.now t).1) out in
@@ -50,7 +50,7 @@ loop-stream-preserved c =
 pub returns-in-Ok-Some-clause-answer : goal.returns-in-Ok-Some-clause-answer
 returns-in-Ok-Some-clause-answer c =
     let e : find is_ready c.loop-stream.self.streams ≡ Some c.in-Some.stream = (ap (λ (s : State). find is_ready s.streams) (sym c.self.view_is) ∙ (sym c.take_ready.ensures.stream ∙ c.in-Some.is)) in
-    let out : with_streams c.take_ready.new.self.list c.self.inside.control ≡ with_bytes c.in-Some.stream.local [] c.loop-stream.self =
+    let out : with_streams c.take_ready.new.self.list c.self.inside.control.value ≡ with_bytes c.in-Some.stream.local [] c.loop-stream.self =
     c.take_ready.ensures.after (the_view c.self.inside) ∙ (ap (taken_out c.take_ready.result) c.self.view_is ∙ ap (λ o. taken_out o c.loop-stream.self) c.in-Some.is) in
     let reported =
     sym (ap (λ t. owned_payload (detached_frame_step c.in-Some.stream c.args.now t).0) out) ∙ (sym c.in-Ok-Some.ensures.answer ∙ ap (λ o. option_map received_payload o) c.in-Ok-Some.field-0-is) in
@@ -60,7 +60,7 @@ returns-in-Ok-Some-clause-answer c =
 pub returns-in-Ok-Some-clause-after : goal.returns-in-Ok-Some-clause-after
 returns-in-Ok-Some-clause-after c =
     let e : find is_ready c.loop-stream.self.streams ≡ Some c.in-Some.stream = (ap (λ (s : State). find is_ready s.streams) (sym c.self.view_is) ∙ (sym c.take_ready.ensures.stream ∙ c.in-Some.is)) in
-    let out : with_streams c.take_ready.new.self.list c.self.inside.control ≡ with_bytes c.in-Some.stream.local [] c.loop-stream.self =
+    let out : with_streams c.take_ready.new.self.list c.self.inside.control.value ≡ with_bytes c.in-Some.stream.local [] c.loop-stream.self =
     c.take_ready.ensures.after (the_view c.self.inside) ∙ (ap (taken_out c.take_ready.result) c.self.view_is ∙ ap (λ o. taken_out o c.loop-stream.self) c.in-Some.is) in
     let is : c.process_detached.new.self ≡ (next_frame_step c.in-Some.stream c.args.now c.loop-stream.self).1 =
     c.in-Ok-Some.ensures.after ∙ ap (λ t. (detached_frame_step c.in-Some.stream c.args.now t).1) out in
@@ -71,7 +71,7 @@ returns-in-Ok-Some-clause-after c =
 pub returns-in-Err-clause-no_memory : goal.returns-in-Err-clause-no_memory
 returns-in-Err-clause-no_memory c =
     let e : find is_ready c.loop-stream.self.streams ≡ Some c.in-Some.stream = (ap (λ (s : State). find is_ready s.streams) (sym c.self.view_is) ∙ (sym c.take_ready.ensures.stream ∙ c.in-Some.is)) in
-    let out : with_streams c.take_ready.new.self.list c.self.inside.control ≡ with_bytes c.in-Some.stream.local [] c.loop-stream.self =
+    let out : with_streams c.take_ready.new.self.list c.self.inside.control.value ≡ with_bytes c.in-Some.stream.local [] c.loop-stream.self =
     c.take_ready.ensures.after (the_view c.self.inside) ∙ (ap (taken_out c.take_ready.result) c.self.view_is ∙ ap (λ o. taken_out o c.loop-stream.self) c.in-Some.is) in
     ends c.args.now c.args.self.now c.loop-stream.self _ c.in-Some.stream e c.loop-stream.invariant.led
     (c.end_at.ensures ∙ (ap (λ a. closed (broken_at a c.process_detached.new.self)) c.local-local.ensures ∙ ap (λ (s : State). closed (broken_at c.in-Some.stream.local s)) (c.in-Err.ensures.err ∙ out)))
@@ -79,7 +79,7 @@ returns-in-Err-clause-no_memory c =
 pub returns-in-Err-clause-wanted : goal.returns-in-Err-clause-wanted
 returns-in-Err-clause-wanted c =
     let e : find is_ready c.loop-stream.self.streams ≡ Some c.in-Some.stream = (ap (λ (s : State). find is_ready s.streams) (sym c.self.view_is) ∙ (sym c.take_ready.ensures.stream ∙ c.in-Some.is)) in
-    let out : with_streams c.take_ready.new.self.list c.self.inside.control ≡ with_bytes c.in-Some.stream.local [] c.loop-stream.self =
+    let out : with_streams c.take_ready.new.self.list c.self.inside.control.value ≡ with_bytes c.in-Some.stream.local [] c.loop-stream.self =
     c.take_ready.ensures.after (the_view c.self.inside) ∙ (ap (taken_out c.take_ready.result) c.self.view_is ∙ ap (λ o. taken_out o c.loop-stream.self) c.in-Some.is) in
     ends-wanted c.args.now c.args.self.now c.loop-stream.self _ c.in-Some.stream e c.loop-stream.invariant.led
     (subst (StepWantsMemory c.in-Some.stream c.args.now) out c.in-Err.ensures.wanted)

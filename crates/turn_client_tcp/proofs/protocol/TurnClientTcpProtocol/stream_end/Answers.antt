@@ -22,6 +22,8 @@ pub returns-clause-after : goal.returns-clause-after
 returns-clause-after g c = λ now.
     let x = c.self.inside.streams.list in
     let local = c.in-Some.local in
-    let gone = ap (with_streams x) c.connection_gone.ensures ∙ (sym (gone-alike x local c.self.inside.control) ∙ ap (connection_gone local) c.self.view_is) in
+    let was = c.deref_mut.result.now in
+    let view = ap (with_streams x) c.deref_mut.ensures.value ∙ c.self.view_is in
+    let gone = ap (with_streams x) c.connection_gone.ensures ∙ (sym (gone-alike x local was) ∙ ap (connection_gone local) view) in
     c.remove.ensures c.connection_gone.new.self
     ∙ (ap (without_stream local) gone ∙ sym (ap (λ p. p.1) (end-at c.args.transmit.to local now c.args.self.now (sym c.in-Some.is ∙ c.stream_local.ensures))))

@@ -24,7 +24,7 @@ pub returns-then-is_empty-clause-answer : goal.returns-then-is_empty-clause-answ
 returns-then-is_empty-clause-answer g c =
     let packet = c.args.transmit in
     let bytes = g.T.AsSlice.items packet.payload in
-    let own = subst (λ (u : State). is_from_server packet.transport packet.from u ≡ true) c.self.view_is (sym c.is_from_server.ensures ∙ c.if-not-is_from_server.false) in
+    let own = subst (λ (u : State). is_from_server packet.transport packet.from u ≡ true) c.self.view_is (ap (is_from_server packet.transport packet.from) (sym c.deref.ensures) ∙ (sym c.is_from_server.ensures ∙ c.if-not-is_from_server.false)) in
     let none : bytes ≡ [] = sym c.as_slice.ensures ∙ nil-from c.as_slice.result.now (sym c.is_empty.ensures ∙ c.if-is_empty.true) in
     c.stream_end.ensures.answer c.args.now
     ∙ sym (ap (λ p. p.0) (recv-end packet.transport packet.from packet.to bytes c.args.self.now c.requires.fit.carrier own c.args.now none))
@@ -33,7 +33,7 @@ pub returns-then-is_empty-clause-after : goal.returns-then-is_empty-clause-after
 returns-then-is_empty-clause-after g c =
     let packet = c.args.transmit in
     let bytes = g.T.AsSlice.items packet.payload in
-    let own = subst (λ (u : State). is_from_server packet.transport packet.from u ≡ true) c.self.view_is (sym c.is_from_server.ensures ∙ c.if-not-is_from_server.false) in
+    let own = subst (λ (u : State). is_from_server packet.transport packet.from u ≡ true) c.self.view_is (ap (is_from_server packet.transport packet.from) (sym c.deref.ensures) ∙ (sym c.is_from_server.ensures ∙ c.if-not-is_from_server.false)) in
     let none : bytes ≡ [] = sym c.as_slice.ensures ∙ nil-from c.as_slice.result.now (sym c.is_empty.ensures ∙ c.if-is_empty.true) in
     c.stream_end.ensures.after c.args.now
     ∙ sym (ap (λ p. p.1) (recv-end packet.transport packet.from packet.to bytes c.args.self.now c.requires.fit.carrier own c.args.now none))
@@ -42,7 +42,7 @@ pub returns-in_default-clause-answer : goal.returns-in_default-clause-answer
 returns-in_default-clause-answer g c =
     let packet = c.args.transmit in
     let bytes = g.T.AsSlice.items packet.payload in
-    let own = subst (λ (u : State). is_from_server packet.transport packet.from u ≡ true) c.self.view_is (sym c.is_from_server.ensures ∙ c.if-not-is_from_server.false) in
+    let own = subst (λ (u : State). is_from_server packet.transport packet.from u ≡ true) c.self.view_is (ap (is_from_server packet.transport packet.from) (sym c.deref.ensures) ∙ (sym c.is_from_server.ensures ∙ c.if-not-is_from_server.false)) in
     let taken = c.take_at.ensures.stream (the_view c.self.inside) ∙ ap (stream_at packet.to) c.self.view_is in
     sym (ap (λ p. p.0) (recv-piece packet.transport packet.from packet.to bytes c.args.self.now c.requires.fit.carrier own c.args.now
     ∙ piece-ignored packet.to bytes c.args.now c.args.self.now (sym taken ∙ c.in_default.is)))
@@ -51,7 +51,7 @@ pub returns-in_default-clause-after : goal.returns-in_default-clause-after
 returns-in_default-clause-after g c =
     let packet = c.args.transmit in
     let bytes = g.T.AsSlice.items packet.payload in
-    let own = subst (λ (u : State). is_from_server packet.transport packet.from u ≡ true) c.self.view_is (sym c.is_from_server.ensures ∙ c.if-not-is_from_server.false) in
+    let own = subst (λ (u : State). is_from_server packet.transport packet.from u ≡ true) c.self.view_is (ap (is_from_server packet.transport packet.from) (sym c.deref.ensures) ∙ (sym c.is_from_server.ensures ∙ c.if-not-is_from_server.false)) in
     let taken = c.take_at.ensures.stream (the_view c.self.inside) ∙ ap (stream_at packet.to) c.self.view_is in
     c.take_at.ensures.after (the_view c.self.inside)
     ∙ (ap (taken_out c.take_at.result) c.self.view_is
@@ -94,14 +94,14 @@ returns g c =
     own : is_from_server c.args.transmit.transport c.args.transmit.from c.args.self.now ≡ true
     own =
         subst (λ (u : State). is_from_server c.args.transmit.transport c.args.transmit.from u ≡ true) c.self.view_is
-        (sym c.is_from_server.ensures ∙ c.if-not-is_from_server.false)
+        (ap (is_from_server c.args.transmit.transport c.args.transmit.from) (sym c.deref.ensures) ∙ (sym c.is_from_server.ensures ∙ c.if-not-is_from_server.false))
 
     some : 0 < length piece
     some = subst (λ (bytes : List ℕ). 0 < length bytes) c.as_slice.ensures (some-from c.as_slice.result.now (sym c.is_empty.ensures ∙ c.if-is_empty.false))
 
     -- the client without the stream's bytes
     left : State
-    left = with_streams c.take_at.new.self.list c.self.inside.control
+    left = with_streams c.take_at.new.self.list c.self.inside.control.value
 
     out : left ≡ with_bytes c.in-Some.stream.local [] c.args.self.now
     out =
