@@ -7,7 +7,6 @@ import socket
 import textwrap
 import threading
 import unittest
-import unittest.mock
 from contextlib import redirect_stdout
 from typing import Any, Dict, List, Tuple
 
@@ -22,12 +21,10 @@ SAMPLES = {
     "reader, writer = await open_connection(": r"b'hello'\n",
     "server = await start_server(": r"peers connect to 127\.0\.0\.1:\d+\n",
     "async def credentials(": r"127\.0\.0\.1:\d+\n",
-    'async with TurnClient("turn:turn.example.org", "user", "password", idle=60': r"\(b'hello', Address\(host='127.0.0.1'.*\n",
-    "logging.basicConfig(level=logging.INFO)\nasync with TurnClient(": r"1 0\.\d+\n",
     "with sync.TurnClient(": r"127\.0\.0\.1:\d+ sent b'hello'\n",
 }
 PRELUDE = """
-import asyncio, logging
+import asyncio
 from yarrowdoor import *
 from yarrowdoor import sync
 
@@ -56,7 +53,7 @@ class Samples(unittest.TestCase):
             with self.subTest(begins=begins), server.coturn(*options.get(begins, ())) as at:
                 (found,) = [it for it in samples() if it.startswith(begins)]
                 self.assertLessEqual(len([it for it in found.splitlines() if it]), 5)
-                self.assertRegex(self.run_sample(found, at, peer.where, port), f"^(INFO.*\n)*{prints}$")
+                self.assertRegex(self.run_sample(found, at, peer.where, port), f"^{prints}$")
 
     def answer(self, stream: socket.socket) -> None:
         with stream, stream.accept()[0] as own:
@@ -83,7 +80,7 @@ class Samples(unittest.TestCase):
             task.cancel()
             await asyncio.wait([task])
 
-        with redirect_stdout(said), unittest.mock.patch("logging.basicConfig"):
+        with redirect_stdout(said):
             asyncio.run(run())
         return said.getvalue()
 
