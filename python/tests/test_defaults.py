@@ -60,7 +60,7 @@ class Defaults(unittest.TestCase):
         self.assertEqual((has_waits, family, other, algorithm, second, anonymous), (0, 4, 0, 1, 0, 0))
         self.assertEqual([page[it] for it in ("family of the relayed address", "algorithms", "user name hidden")],
                          ["IPv4", "SHA-1", "no"])
-        # 0 is the library's own default, which docs/LIBRARY.md names.
+        # 0 is the library's own default, which include/yarrowdoor.h names.
         self.assertEqual((keepalive, ahead), (0, 0))
         self.assertEqual((page["keepalive"], page["refresh ahead"]), ("never", "60"))
         self.assertEqual(page["pause between two requests"], told(pause / 1e9))
