@@ -125,7 +125,8 @@ static size_t painted_over(void *(*call)(void *))
     pthread_t thread;
     size_t at = 0;
     memset(stack, PAINT, STACK);
-    check(pthread_attr_init(&attributes) == 0 && pthread_attr_setstack(&attributes, stack + STACK - THREAD, THREAD) == 0,
+    check(pthread_attr_init(&attributes) == 0 &&
+              pthread_attr_setstack(&attributes, stack + STACK - THREAD, THREAD) == 0,
           "a stack");
     check(pthread_create(&thread, &attributes, call, NULL) == 0 && pthread_join(thread, NULL) == 0, "a thread");
     pthread_attr_destroy(&attributes);
