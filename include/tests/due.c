@@ -3,7 +3,7 @@
    channel and a permission send and receive at drawn times, with and without a keepalive; after each such call nothing is to be
    sent, there is no event, and the wake-up time is no earlier. A call that does make something due is seen by the same check.
    A caller who is late with the first request is given a wake-up time that is before now.
-   The last line says how long after yarrowdoor_delete its request is sent, at the default pause, right after another one. */
+   The last line says how long after yarrowdoor_delete its request is sent, at the usual pause, right after another one. */
 #include "bench.h"
 #include "yarrowdoor.h"
 #include <stdio.h>
@@ -185,7 +185,7 @@ int main(void)
                packet[1] != 4) {
             now += MILLISECOND;
         }
-        check(now - start_of_delete == 50 * MILLISECOND, "a REFRESH behind one request, at the default pause");
+        check(now - start_of_delete == 5 * MILLISECOND, "a REFRESH behind one request, at the usual pause");
         yarrowdoor_free(client);
     }
     printf("due: %lu calls; the REFRESH of a delete leaves after %lu ms\n", calls,
