@@ -102,8 +102,9 @@ class Text(unittest.TestCase):
 
     @unittest.skipUnless(check_page.PAGE.exists(), "the sources are not here")
     def test_the_page_names_each_metric(self) -> None:
-        named = re.findall(r"(?m)^\| `(turn_\w+)` \|", check_page.PAGE.read_text())
-        self.assertEqual([*named], re.findall(r"(?m)^# TYPE (\w+) ", TEXT))
+        paragraph = re.search(r"(?s)\nEach metric has .*?\n\n", check_page.PAGE.read_text())
+        named = re.findall(r"`(turn_\w+)`", paragraph[0] if paragraph else "")
+        self.assertEqual(named, re.findall(r"(?m)^# TYPE (\w+) ", TEXT))
 
     def test_numbers_and_words_of_all_kinds(self) -> None:
         rows = [(float("nan"), "NaN"), (float("inf"), "+Inf"), (-float("inf"), "-Inf"), (1e-7, "1e-07"), (0.1, "0.1"),
