@@ -26,20 +26,23 @@ before(async () => {
     await Promise.all([serves(ports.plain), listens(ports.secure), serves(ports.quiet)]);
 });
 
-test("coturn that was restarted on its port: check says that it no longer knows the relayed address", { skip }, async () => {
-    const port = await freePort(), options = { urls: `turn:127.0.0.1:${port}`, username: "user", credential: "pass", library: await library() };
-    const server = servers.start("before", port, []);
-    await serves(port);
-    const relay = await Relay.open(options), ended = new Promise((resolve) => server.once("exit", resolve));
-    assert.deepEqual([(await relay.check()).isAnswered, (await relay.check()).isAllocated], [true, true]);
-    server.kill("SIGKILL");
-    await ended;
-    servers.start("after", port, []);
-    await serves(port);
-    const { isAnswered, isAllocated } = await relay.check();
-    assert.deepEqual([isAnswered, isAllocated, relay.closed], [true, false, false]);
-    await relay.close();
-});
+for (const realm of ["realm", "another realm"]) {
+    const what = realm === "realm" ? "on its port" : "with another realm";
+    test(`coturn that was restarted ${what}: check says that it no longer knows the relayed address`, { skip }, async () => {
+        const port = await freePort(), options = { urls: `turn:127.0.0.1:${port}`, username: "user", credential: "pass", library: await library() };
+        const server = servers.start("before", port, []);
+        await serves(port);
+        const relay = await Relay.open(options), ended = new Promise((resolve) => server.once("exit", resolve));
+        assert.deepEqual([(await relay.check()).isAnswered, (await relay.check()).isAllocated], [true, true]);
+        server.kill("SIGKILL");
+        await ended;
+        servers.start("after", port, ["-r", realm]);
+        await serves(port);
+        const { isAnswered, isAllocated } = await relay.check();
+        assert.deepEqual([isAnswered, isAllocated, relay.closed], [true, false, false]);
+        await relay.close();
+    });
+}
 
 after(() => {
     servers.close();

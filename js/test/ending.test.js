@@ -161,6 +161,19 @@ for (const code of [437, 400]) {
     });
 }
 
+test("a server that was restarted with another realm: check says that the relayed address is lost, after 3.5 s", async () => {
+    for (const make of [udp, tcp]) {
+        const clock = fastClock(10);
+        await withServer(make, async (server, relay) => {
+            assert.equal((await relay.check()).isAllocated, true);
+            server.serveRealm("another realm");
+            const start = clock.now(), { isAnswered, isAllocated } = await relay.check();
+            assert.deepEqual([isAnswered, isAllocated, relay.closed], [true, false, false]);
+            assert.ok(clock.now() - start >= 3_500); // nobody has signed the errors, and a signed answer might come
+        }, { clock });
+    }
+});
+
 test("check asks for a permission of nobody's, and knows a server that denies it", async () => {
     await withServer(udp, async (server, relay) => {
         const asked = [];
@@ -197,6 +210,15 @@ test("a server that no longer knows the relayed address: the reason says so", as
             method === METHOD.REFRESH && attributes.get(ATTRIBUTE.LIFETIME)?.readUInt32BE(0) !== 0 ? { code: 437, phrase: "Allocation Mismatch" } : undefined);
         const [error] = await told;
         assert.match(error.message, /does not renew the relayed address \(437 Allocation Mismatch\): it no longer knows it/);
+    }, { clock: fastClock(2_000) });
+});
+
+test("a server that has another realm since: the reason of the end says so", async () => {
+    await withServer(udp, async (server, relay) => {
+        const told = next(relay, "error");
+        server.serveRealm("another realm");
+        const [error] = await told;
+        assert.match(error.message, /does not renew the relayed address \(441 Wrong Credentials\): it no longer knows it/);
     }, { clock: fastClock(2_000) });
 });
 

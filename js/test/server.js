@@ -36,6 +36,7 @@ export class Server {
     bound = new Map();
     /** How many data connections were asked for, or offered. */
     connections = 0;
+    #realm = REALM;
     #key = keyOf(USER, REALM, PASSWORD);
     #close = () => {};
 
@@ -78,6 +79,12 @@ export class Server {
 
     close() {
         this.#close();
+    }
+
+    /** Takes requests that are signed for this realm from now on. */
+    serveRealm(realm) {
+        this.#realm = realm;
+        this.#key = keyOf(USER, realm, PASSWORD);
     }
 
     /** How many requests of a method came, each counted once however often it was transmitted. */
@@ -129,13 +136,15 @@ export class Server {
         what === "drop" || send(this.#answerTo(request, what));
     }
 
-    #answerTo({ method, id, bytes, from }, error) {
+    #answerTo({ method, id, bytes, from, attributes }, error) {
         if (method === METHOD.BINDING) {
             return message(method, CLASS.SUCCESS, id, [[ATTRIBUTE.XOR_MAPPED_ADDRESS, this.#mapped(from)]]);
         }
-        const challenge = [[ATTRIBUTE.REALM, Buffer.from(REALM)], [ATTRIBUTE.NONCE, Buffer.from(NONCE)]];
         if (!isSigned(bytes, this.#key)) {
-            return message(method, CLASS.ERROR, id, [[ATTRIBUTE.ERROR_CODE, errorCode(401, "Unauthorized")], ...challenge]);
+            const isOther = attributes.has(ATTRIBUTE.REALM) && attributes.get(ATTRIBUTE.REALM).toString() !== this.#realm;
+            const code = isOther ? errorCode(441, "Wrong Credentials") : errorCode(401, "Unauthorized"); // as coturn
+            const challenge = [[ATTRIBUTE.REALM, Buffer.from(this.#realm)], [ATTRIBUTE.NONCE, Buffer.from(NONCE)]];
+            return message(method, CLASS.ERROR, id, [[ATTRIBUTE.ERROR_CODE, code], ...challenge]);
         }
         if (error) {
             return message(method, CLASS.ERROR, id, [[ATTRIBUTE.ERROR_CODE, errorCode(error.code, error.phrase)]], this.#key);

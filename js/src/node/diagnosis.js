@@ -1,6 +1,6 @@
 // Why a client has ended, or has no relayed address: what was received from the server, in words.
 import { AllocationFailed, Ended, WrongCredentials } from "../errors.js";
-import { METHOD, isAboutCredentials, isChallenge, lifetimeOf, methodKey } from "./reasons.js";
+import { METHOD, isAboutCredentials, isChallenge, isForgotten, lifetimeOf, methodKey } from "./reasons.js";
 
 const ALLOCATE = methodKey(METHOD.ALLOCATE), REFRESH = methodKey(METHOD.REFRESH);
 /** A refresh that grants less has no effect (RFC 8656, section 7.2), in seconds. */
@@ -119,7 +119,7 @@ export class Diagnosis {
         }
         const refresh = this.#requests.last(REFRESH);
         if (refresh?.error) {
-            const { code, phrase } = refresh.error, why = code === 400 || code === 437 ? ": it no longer knows it, as after a restart" : "";
+            const { code, phrase } = refresh.error, why = isForgotten(code) ? ": it no longer knows it, as after a restart" : "";
             return `the server does not renew the relayed address (${`${code} ${phrase}`.trim()})${why}`;
         }
         if (refresh?.isGranted && refresh.lifetime !== undefined && refresh.lifetime < MIN_LIFETIME) {

@@ -114,6 +114,13 @@ export const isAboutCredentials = (code) => code === 400 || code === 401;
  */
 export const isChallenge = (code) => code === 401 || code === 438;
 
+/**
+ * Whether an error to a signed request means that the server does not know the relayed address, as after a restart: 437 (RFC 8656,
+ * section 5), 400 of coturn, and 441 where it has another realm since.
+ * @param {number} code
+ */
+export const isForgotten = (code) => code === 400 || code === 437 || code === 441;
+
 /** The messages in a stream of the server, cut by the library. What is no stream of TURN gives nothing any more. */
 export class Frames {
     #front = new Uint8Array();

@@ -1,9 +1,8 @@
 // Whether a server still knows a relayed address: it is asked for a permission that is of no use.
 import { PermissionFailed, YarrowdoorError } from "../errors.js";
 import { pause } from "./clock.js";
+import { isForgotten, permissionKey } from "./reasons.js";
 
-/** What a server answers that does not know the relayed address: 437 (RFC 8656, section 5), and coturn 400. */
-const UNKNOWN = Object.freeze([400, 437]);
 /** So many addresses that no host has (RFC 5737, RFC 3849) are asked for by turns. A permission for one of them lets nobody in. */
 const NUMBERS = 254;
 /** How long the answer is waited for, in milliseconds: as long as that to a Binding request. */
@@ -28,26 +27,38 @@ export class Standing {
      */
     async ask() {
         const { clock, over } = this.#session;
-        return Promise.race([this.#asked(), pause(clock, WAIT).then(() => undefined), over.promise.then(() => undefined)]);
-    }
-
-    async #asked() {
-        const { grants } = this.#session;
         try {
-            const ip = this.#unused();
-            await grants.permit(ip);
-            grants.setKept(ip, false);
-            return true;
+            const ip = this.#unused(), late = pause(clock, WAIT).then(() => this.#unsigned(ip));
+            return await Promise.race([this.#asked(ip), late, over.promise.then(() => undefined)]);
         } catch (error) {
             if (error instanceof PermissionFailed) {
                 // with another code it is denied, or the server has no room, but there is an allocation
-                return error.errorCode === undefined ? undefined : !UNKNOWN.includes(error.errorCode);
+                return error.errorCode === undefined ? undefined : !isForgotten(error.errorCode);
             }
             if (error instanceof YarrowdoorError) {
                 return undefined; // it has ended, or there is no memory
             }
             throw error;
         }
+    }
+
+    /** @param {string} ip */
+    async #asked(ip) {
+        const { grants } = this.#session;
+        await grants.permit(ip);
+        grants.setKept(ip, false);
+        return true;
+    }
+
+    /**
+     * False if an error without a signature says that the server does not know the relayed address: one to a request for another
+     * realm has none. A signed answer may follow such an error (RFC 8489, section 9.2.5), so this is for the end of the wait.
+     * @param {string} ip
+     * @returns {false | undefined}
+     */
+    #unsigned(ip) {
+        const error = this.#session.requests.last(permissionKey(ip))?.error;
+        return error && isForgotten(error.code) ? false : undefined;
     }
 
     /** An address that has no permission, which would not be asked for. */
