@@ -1,5 +1,6 @@
 # SPDX-License-Identifier: MIT OR Apache-2.0
 # Part of tools/check/test-library: callers pass no memory that is not initialised, also where the library only writes.
+# shellcheck disable=SC2086 # $warnings, $memcheck and their like are several words
 
 # The library with functions before its own that have valgrind look at what is passed in, in a folder as dist/.
 build_checking() {

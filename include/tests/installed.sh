@@ -1,5 +1,6 @@
 # SPDX-License-Identifier: MIT OR Apache-2.0
 # Part of tools/check/test-library: the library as it is installed, found by pkg-config and by CMake, and moved.
+# shellcheck disable=SC2086,SC2154 # $warnings, $memcheck and their like are several words; who reads this sets $dist
 
 # Runs the exchange of turn_replay by a program, which gets the same answers.
 answers_trace() {

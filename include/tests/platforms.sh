@@ -1,6 +1,7 @@
 # SPDX-License-Identifier: MIT OR Apache-2.0
 # Part of tools/check/test-library: the traces and the bad requests on each platform that the library is built for, by the programs
 # that run natively, built for that platform. What is not there is named.
+# shellcheck disable=SC2086 # $warnings, $memcheck and their like are several words
 
 # How the names of programs end: of Windows alone by something.
 exe=""

@@ -1,5 +1,6 @@
 # SPDX-License-Identifier: MIT OR Apache-2.0
 # Part of tools/check/test-library: the package for Rust and its callers.
+# shellcheck disable=SC2086 # $warnings, $memcheck and their like are several words
 
 # Nothing that links no program needs the library.
 check_without_library() {

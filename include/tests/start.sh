@@ -1,6 +1,7 @@
 # SPDX-License-Identifier: MIT OR Apache-2.0
 # Part of tools/check/test-library: programs start that use the library through another shared library. glibc may bind the shared library
 # before the C library then, since it names none.
+# shellcheck disable=SC2086,SC2128,SC2178 # $warnings, $memcheck and their like are several words, and $program is no array here
 
 # Runs a program, which a preloaded library may follow, with each way of binding. The words before it run a program of its platform.
 starts() {
@@ -20,7 +21,9 @@ check_starts() {
     local to=$1 from=$2 cc=$3 run
     shift 3
     run=("$@")
+    # shellcheck disable=SC2054,SC2206 # $warnings is several words, and the linker takes commas
     local words=(-std=c99 -O1 $warnings -I "$from" -I "$tests/start") paths=(-L "$to" -Wl,-rpath,"$to" -L "$from" -Wl,-rpath,"$from")
+    # shellcheck disable=SC2054
     local all=(-Wl,--no-as-needed)
     mkdir -p "$to"
     "$cc" "${words[@]}" -fPIC -shared "$tests/start/user.c" "${paths[@]}" -lyarrowdoor -o "$to/libuser.so"

@@ -1,6 +1,7 @@
 # SPDX-License-Identifier: MIT OR Apache-2.0
 # Part of tools/build/library: compiles the proved functions for the target into $room/proved.a, and puts what the prover printed into
 # $room/rt.log.
+# shellcheck disable=SC2154 # tools/build/library sets $cpu, $triple and $tools by its options
 
 # Builds turn_c over the libraries that `rt ci` left in the folders of the crates, by the words with which it checks turn_c.
 # Takes the kit's name of the target, the toolchain and the file to write.
