@@ -1,6 +1,6 @@
 -- What a client sends next (RFC 8489, section 6.2; RFC 8656, sections 8 to 12).
 use Rattle.std.specs.Prelude.{ℕ, ◌==◌, slice_get, drop, nat_le, nat_lt, Bool, false, ◌&&◌, if◌then◌else◌, List, [], ◌∷◌, filter, filter_map, flat_map, Option}
-use Rattle.std.specs.Prelude.{Some, None, is_none}
+use Rattle.std.specs.Prelude.{Some, None, is_none, is_some}
 use Rattle.turn_stun.specs.declared.transport.Transmit.{Transmit}
 use Rattle.std.specs.List.{list_any}
 use Rattle.std.specs.Option.{option_map_or}
@@ -11,6 +11,7 @@ use Rattle.turn_agent.specs.declared.transaction.Transaction.{Transaction}
 use Rattle.turn_client_api.specs.State.{State, Phase, New, Requesting, Allocated, Grant, Allocation, Permission, Channel, Relay, Active, Purpose, ForAllocation}
 use Rattle.turn_client_api.specs.State.{ForRefresh, ForPermission, ForChannel, Queued, agent_of}
 use Rattle.turn_client_api.specs.Grants.{allocations, family_of, is_of}
+use Rattle.turn_client_api.specs.Calls.{is_allocated}
 use Rattle.turn_client_api.specs.Requests.{request_started, asked_lifetime, binding_indication, first_allocate, fresh_id, id_used, request_for, to_server}
 use Rattle.turn_client_api.specs.Due.{is_paused, keepalive_times, refresh_time}
 
@@ -107,8 +108,17 @@ begun_by now q s =
 abbrev pub front_sent : ℕ → Queued → State → State
 front_sent now q s = sent now (record s { queue = drop 1 s.queue; transactions = begun_by now q s })
 
+-- if requests wait from their first copies on, what refreshes a grant goes before what is queued (our choice): else a burst would
+-- hold it back until the grant expires
+abbrev pub refreshes_first : ℕ → State → Bool
+refreshes_first now s = s.config.timed_from_send && is_allocated s.phase && is_some (next_refresh now s)
+
+-- the queued packet that is sent next
+abbrev pub next_queued : ℕ → State → Option Queued
+next_queued now s = if refreshes_first now s then None else slice_get s.queue 0
+
 abbrev pub queue_step : ℕ → State → Option (Transmit (List ℕ)) × State
-queue_step now s = option_map_or (λ q. (Some q.packet, front_sent now q s)) (slice_get s.queue 0) (idle_step s.phase now s)
+queue_step now s = option_map_or (λ q. (Some q.packet, front_sent now q s)) (next_queued now s) (idle_step s.phase now s)
 
 -- what is sent next: what is to be retransmitted, what is queued, and then what the client has to request
 abbrev pub transmit_step : ℕ → State → Option (Transmit (List ℕ)) × State

@@ -352,10 +352,10 @@ impl TurnConfig {
     /// section 6.2.1: a request is retransmitted from when it was sent), and not when it is made (our
     /// choice). With the default pause a burst of requests leaves over seconds. A request that waits
     /// from when it was made may then be retransmitted before its turn, which waits for no pause, and
-    /// time out before it has left; one that waits from its first copy leaves in its turn, and once. As
-    /// long as nobody takes its first copy it does not time out, and what it requests stays pending, at
-    /// the latest until the allocation is removed; after `delete` the client ends only once the REFRESH was
-    /// taken, and answered or timed out.
+    /// time out before it has left; one that waits from its first copy leaves in its turn, and once, and a
+    /// refresh that is due goes before it. As long as nobody takes its first copy it does not time out, and
+    /// what it requests stays pending, at the latest until the allocation is removed; after `delete` the
+    /// client ends only once the REFRESH was taken, and answered or timed out.
     ///
     /// By default they begin when the request is made.
     pub fn set_requests_timed_from_send(&mut self, timed_from_send: bool)

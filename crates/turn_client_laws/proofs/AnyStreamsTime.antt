@@ -6,7 +6,7 @@ use Rattle.turn_client_laws.proofs.Machine.{is_refreshable, keepalive_times, max
 use Rattle.turn_client_laws.proofs.Machine.{is_pending_channel, is_pending_permission, allocation_expires, answer_by, answer_step, channel_expired, connections_unbound, failed_by_timeout}
 use Rattle.turn_client_laws.proofs.Machine.{is_expired_channel, is_listed_for_allocation, expired_at, expired_allocation, expired_in, next_offer, offers_timed_out, permissions_expired, poll_step}
 use Rattle.turn_client_laws.proofs.Machine.{refreshes_timed_out, set_free, timed_out_purposes, timed_out_step, timed_step, State, agent_of, later_by, max_time, idle_step, is_ranked, is_refresh_due}
-use Rattle.turn_client_laws.proofs.Machine.{keepalive_step, next_refresh, queue_step, refresh_purpose, refresh_step, transmit_step, Grant, Allocation, Channel, Active, Purpose, Relay, Phase, New}
+use Rattle.turn_client_laws.proofs.Machine.{keepalive_step, next_queued, next_refresh, queue_step, refresh_purpose, refresh_step, transmit_step, Grant, Allocation, Channel, Active, Purpose, Relay, Phase, New}
 use Rattle.turn_client_laws.proofs.Machine.{Requesting, Authenticating, Allocated, Closed, Stream}
 use Rattle.turn_client_api.specs.declared.poll.TurnPollRet.TheVariants as Do
 use Rattle.turn_client_laws.proofs.AnyStreamsLemmas.{alike-cond, alike-fold, both_with, pair-cond, with_streams}
@@ -57,7 +57,7 @@ module _ (x : List Stream) where
   idle-alike p now s = refl
 
   queue-alike : (now : ℕ) (s : State) → queue_step now (with_streams x s) ≡ both_with x (queue_step now s)
-  queue-alike now s = pair-found (slice_get s.queue 0) _ _ _ _ (λ q. refl) (idle-alike s.phase now s)
+  queue-alike now s = rw (next-alike now s) (pair-found (next_queued now s) _ _ _ _ (λ q. refl) (idle-alike s.phase now s))
 
   pub transmit-alike : (now : ℕ) (s : State) → transmit_step now (with_streams x s) ≡ both_with x (transmit_step now s)
   transmit-alike now s =

@@ -7,7 +7,7 @@ use Rattle.turn_client_laws.proofs.Machine.{is_connect, is_for_any, is_of, is_pe
 use Rattle.turn_client_laws.proofs.Machine.{closed, transaction_ended, reserved, has_event, has_reply, is_paused, keepalive_times, answer_step, channel_expired, connections_unbound}
 use Rattle.turn_client_laws.proofs.Machine.{timed_out_purposes, timed_out_step, allocation_expires, failed_by_timeout, is_timed_out_offer, is_expired_channel, is_expired_permission}
 use Rattle.turn_client_laws.proofs.Machine.{is_listed_for_allocation, is_over, is_unbound, expired_at, expired_allocation, expired_in, next_offer, offer_step, offers_timed_out, permissions_expired}
-use Rattle.turn_client_laws.proofs.Machine.{poll_step, silent_step, timed_step, idle_step, is_due_in, keepalive_step, queue_step, refresh_purpose, refreshes_in, refreshes_of_rank, sent, transmit_step}
+use Rattle.turn_client_laws.proofs.Machine.{poll_step, silent_step, timed_step, idle_step, is_due_in, keepalive_step, next_queued, queue_step, refresh_purpose, refreshes_in, refreshes_of_rank, sent, transmit_step}
 use Rattle.turn_client_laws.proofs.Machine.{same_address-self, Has, has-filter, has-filter_map, has-flat_map, has-found, first-has, has-unreversed, expired_in-does}
 use Rattle.turn_client_api.specs.Transmit as T
 use Rattle.turn_client_laws.specs.LawsStates.{is_asked_by}
@@ -16,6 +16,7 @@ use Rattle.turn_client_laws.proofs.GrantOriginEffectLemmas.{same_ip-same}
 use Rattle.turn_client_laws.proofs.Edits.{IsAskable, KeepsEdits, SparesAllocations}
 use Rattle.turn_client_laws.proofs.EditsOfReplies.{closed-walk, each, either, found, one-of, removed, asked-walk, reserved-walk, spares-kind, spelled-else, unlisted-walk, reported-alike}
 use Rattle.turn_client_laws.proofs.CaseLemmas.{by_test, answer-by}
+use Rattle.turn_client_laws.proofs.QueuedLemmas.{queued-first}
 
 -- ---- what is refreshed exists
 
@@ -195,10 +196,10 @@ module _ (R : State → State → Type 0) (k : KeepsEdits R) where
       by false o = k.same s
 
   queue-walk : (now : ℕ) (s : State) → R s (queue_step now s).1
-  queue-walk now s = found R k _ (slice_get s.queue 0) s (idle_step s.phase now s)
+  queue-walk now s = found R k _ (next_queued now s) s (idle_step s.phase now s)
       (λ q e. let t = sent now s in
       let u = record t { queue = drop 1 s.queue } in
-      then s t (record u { transactions = T.begun_by now q u }) (k.sends now s (λ new none. absurd (rw none at (first-has q s.queue e))))
+      then s t (record u { transactions = T.begun_by now q u }) (k.sends now s (λ new none. absurd (rw none at (first-has q s.queue (queued-first now s q e)))))
       (then t u _ (k.dequeues (drop 1 s.queue) t (has-dropped s.queue)) (begun-walk now q u)))
       (idle-walk s.phase now s)
 

@@ -29,6 +29,7 @@ pub use Rattle.turn_client_laws.proofs.AnyStreamsEffects.{bind-alike, opened_in,
 pub use Rattle.turn_client_laws.proofs.AnyStreamsLemmas.{both_with, message-alike, with_streams}
 pub use Rattle.turn_client_laws.proofs.AnyStreamsTime.{poll-alike, transmit-alike}
 pub use Rattle.turn_client_laws.proofs.BoundLemmas.{binds-input}
+pub use Rattle.turn_client_laws.proofs.QueuedLemmas.{none-queued, queued-first}
 pub use Rattle.turn_client_laws.proofs.CaseLemmas.{all-expire, answer-by, bind-by, by_accepted, by_found, by_test, found-local, indicated-by, requested-by, send_to-by}
 pub use Rattle.turn_client_laws.proofs.ChallengeJudgement.{AnswersAllocate, Challenged-is, IsSignedReply, Says, bind-is, judgement-says}
 pub use Rattle.turn_client_laws.proofs.ConfiguredLemmas.{call-configured, leaves-configured, message-configured}
@@ -65,7 +66,7 @@ pub use Rattle.turn_client_laws.proofs.OtherStreamLemmas.{broken-aside, bytes-as
 pub use Rattle.turn_client_laws.proofs.PacketLemmas.{packet-by}
 pub use Rattle.turn_client_laws.proofs.PhaseEdits.{all-phase-edits, phase-edits}
 pub use Rattle.turn_client_laws.proofs.PhasesGoOn.{Keeps, Keeps-KeepsAllEdits, Keeps-KeepsEdits, bind-keeps, call-keeps, challenge-IsCounted, keeps-same, keeps-trans, leaves-keeps, message-keeps}
-pub use Rattle.turn_client_laws.proofs.ReadyLemmas.{next-sends, no_reply-kept, no_reply-left, not_due-transmit, refreshed-once}
+pub use Rattle.turn_client_laws.proofs.ReadyLemmas.{front-sends, next-sends, no_reply-kept, no_reply-left, not_due-transmit, refreshed-once}
 pub use Rattle.turn_client_laws.proofs.RunKeepLemmas.{IsKept, frame-kept, poll_recv-kept, recv-kept, steps-kept}
 pub use Rattle.turn_client_laws.proofs.SendOrderLemmas.{initial-steady, leaves-steadies, steady-FitsPhaseForPoll}
 pub use Rattle.turn_client_laws.proofs.StandLemmas.{Covers, Leaves, contains-has, covers-has, covers-left, covers-stood, has-contains, kept-stood, kept-trans}

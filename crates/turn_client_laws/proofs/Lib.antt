@@ -67,6 +67,7 @@ pub mod PacketLemmas
 pub mod PeerLemmas
 pub mod PhaseEdits
 pub mod PhasesGoOn
+pub mod QueuedLemmas
 pub mod ReadyLemmas
 pub mod RestingStreamLemmas
 pub mod RunKeepLemmas

@@ -88,7 +88,7 @@ pub use Rattle.turn_client_api.specs.Streams.{max_steps, next_frame_step, owned,
 pub use Rattle.turn_client_api.specs.Streams.{without_stream}
 unfoldable pub use Rattle.turn_client_api.specs.Streams.{steps_until_payload}
 pub use Rattle.turn_client_api.specs.Transmit.{idle_step, is_due_in, is_ranked, keepalive_step, next_refresh, next_transmit, queue_step, refresh_purpose, refresh_step, refreshes_in, refreshes_of_rank}
-pub use Rattle.turn_client_api.specs.Transmit.{begun_by, front_sent, id_in_header}
+pub use Rattle.turn_client_api.specs.Transmit.{begun_by, front_sent, id_in_header, next_queued, refreshes_first}
 pub use Rattle.turn_client_api.specs.Transmit.{reply_in, reply_step, sent, sent_at_once, transmit_step, without_first_reply}
 unfoldable pub use Rattle.turn_client_api.specs.Transmit.{is_refresh_due}
 pub use Rattle.turn_client_api.specs.declared.call.Call.{Call}

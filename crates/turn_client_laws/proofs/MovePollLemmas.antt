@@ -6,7 +6,7 @@ use Rattle.turn_client_laws.proofs.Machine.{ForAllocation, Phase, New, Requestin
 use Rattle.turn_client_laws.proofs.Machine.{closed, transaction_ended, has_event, has_reply, is_paused, keepalive_times, expiry_times, answer_by, answer_step, channel_expired, timed_out_purposes}
 use Rattle.turn_client_laws.proofs.Machine.{timed_out_step, is_expired_channel, is_listed_for_allocation, expired_at, expired_allocation, expired_in, next_offer, offer_step, poll_step, timed_step}
 use Rattle.turn_client_laws.proofs.Machine.{as_reported, first_reported, unreported_in, idle_step, keepalive_step, queue_step, refreshes_in, reply_step, sent, sent_at_once, transmit_step, Call, Poll}
-use Rattle.turn_client_laws.proofs.Machine.{Queued, front_sent, id_in_header, waiting_from, waits_begun, PollTransmit, Has, all-has, has-found, expired_in-does}
+use Rattle.turn_client_laws.proofs.Machine.{Queued, front_sent, id_in_header, next_queued, waiting_from, waits_begun, PollTransmit, Has, all-has, has-found, expired_in-does}
 use Rattle.turn_client_laws.specs.LawsRequests.{AsksFor, IsMade}
 use Rattle.turn_client_laws.specs.LawsGone.{IsTakenBy, IsTimeUp, grant_identity}
 use Rattle.turn_client_api.proofs.EarlyExpiryLemmas.{expired_at-none}
@@ -258,7 +258,7 @@ transmit-does now s =
     (due (agent_of s) now) (cond (is_paused now s) (reply_step s) (queue_step now s)) (λ x e. resent-does now s x)
     (by_test Claim (is_paused now s) (reply_step s) (queue_step now s) (does-settled (PollTransmit now) s (reply_step s).1 same)
     (by_found Claim (λ q. (Some q.packet, front_sent now q s))
-    (slice_get s.queue 0) (idle_step s.phase now s) (λ q e. front-does now s q) (idle-does s.phase now s)))
+    (next_queued now s) (idle_step s.phase now s) (λ q e. front-does now s q) (idle-does s.phase now s)))
   where
     Claim : State → Type 0
     Claim t = Does (PollTransmit now) s t

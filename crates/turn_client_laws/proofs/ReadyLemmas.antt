@@ -2,7 +2,8 @@
 use Rattle.turn_client_laws.proofs.Common.{drop, ◌≡◌, ◌≢◌, ℕ, suc, ◌+◌, ◌*◌, ◌-◌, ◌^◌, ◌<◌, ◌≤◌, min, max, Bool, true, false, not, ltb, leb, List, [], ◌∷◌, ◌++◌, length, map, filter, flat_map}
 use Rattle.turn_client_laws.proofs.Common.{filter_map, fold, Option, Some, None, ◌⊎◌, inl, inr, refl, sym, subst, ◌∙◌, arith, if◌then◌else◌, is_some, IsSome, IfSome, ⊤, slice_get, option_to_list}
 use Rattle.turn_client_laws.proofs.Common.{list_any, option_map_or, le-min, none-some, same_Some, not-true, false_from_ne_true, lt-ltb, le-leb, ltb-true, ltb-false, and_right, lt-leb, or_parts}
-use Rattle.turn_client_laws.proofs.Common.{cases_Bool, and_parts}
+use Rattle.turn_client_laws.proofs.Common.{cases_Bool, and_parts, cond, ◌&&◌}
+use Rattle.turn_client_laws.proofs.Machine.{front_sent, is_allocated, refreshes_first, Requesting, Authenticating, Closed}
 use Rattle.turn_client_laws.proofs.Machine.{timed_out_transaction, due, is_due, is_timed_out, transaction_timeout, Transaction, Transmit, TransportType, Timers, AddressFamily, IPV4, IPV6, same_family}
 use Rattle.turn_client_laws.proofs.Machine.{State, agent_of, later_by, max_time, Purpose, ForRefresh, ForPermission, ForChannel, Phase, New, Allocated, Grant, Allocation, Permission, Channel}
 use Rattle.turn_client_laws.proofs.Machine.{Connection, Relay, Active, Queued, allocations, as_allocation, find_allocation, family_of, family_of_grant, family_of_ip, is_of, asked_lifetime}
@@ -13,6 +14,7 @@ use Rattle.turn_client_laws.proofs.Machine.{transmit_step, without_first_reply, 
 use Rattle.turn_client_laws.proofs.Machine.{filter_map-has, has-filter_map, find-none, filter-none, least-le, all-has, cases_Option}
 use Rattle.std.proofs.lemmas.Bool.Decides.{nat_tests}
 use Rattle.turn_client_laws.proofs.MoveLemmas.{none-found}
+use Rattle.turn_client_laws.proofs.QueuedLemmas.{none-queued}
 use Rattle.turn_client_laws.proofs.GrantOriginLemmas.{has-mapped}
 
 -- the grant has not expired by now, if its expiry is one to wait for
@@ -152,7 +154,7 @@ reply-none : (t : State) → has_reply t ≡ false → reply_step t ≡ (None, t
 reply-none t none = rw (no_replies t.queue none, no_reply-kept t.queue none) refl
 
 queue-empty : (m : ℕ) (t : State) → t.queue ≡ [] → queue_step m t ≡ idle_step t.phase m t
-queue-empty m t e = rw (e, queue_step) refl
+queue-empty m t e = rw (none-queued m t e) refl
 
 sends_nothing : (now m : ℕ) (t : State) → IsReady now t → m < least_due now t → transmit_step m t ≡ (None, t)
 sends_nothing now m t ready before = rw (not_due-transmit m t (not_due now m t before)) (by (is_paused m t) refl)
@@ -318,9 +320,27 @@ grant-later now m t g alive pause h =
 
 -- ---- a client that is ready and has something due has something to send
 
-front-sends : (now : ℕ) (t : State) (qs : List Queued) → t.queue ≡ qs → 0 < length qs → IsSome (queue_step now t).0
+-- a refresh that goes first is sent
+first-sends : (now : ℕ) (t : State) → refreshes_first now t ≡ true → IsSome (idle_step t.phase now t).0
+first-sends now t e =
+    let (may, some) = and_parts (t.config.timed_from_send && is_allocated t.phase) (is_some (next_refresh now t)) e in
+    by t.phase (and_parts t.config.timed_from_send (is_allocated t.phase) may).1 (next-sends now t some)
+  where
+    by : (p : Phase) → is_allocated p ≡ true → IsSome (refresh_step now t).0 → IsSome (idle_step p now t).0
+    by Allocated is sends = sends
+    by New is sends = cc
+    by Requesting is sends = cc
+    by Authenticating is sends = cc
+    by Closed is sends = cc
+
+pub front-sends : (now : ℕ) (t : State) (qs : List Queued) → t.queue ≡ qs → 0 < length qs → IsSome (queue_step now t).0
 front-sends now t [] e some = absurd (omega (arith, some))
-front-sends now t (q ∷ qs) e some = rw e refl
+front-sends now t (q ∷ qs) e some = by (refreshes_first now t) refl
+  where
+    by : (b : Bool) → refreshes_first now t ≡ b
+        → IsSome (option_map_or (λ (x : Queued). (Some x.packet, front_sent now x t)) (cond b None (slice_get t.queue 0)) (idle_step t.phase now t)).0
+    by true e = first-sends now t e
+    by false f = rw e refl
 
 -- nothing keeps the path alive within the pause
 paused-kept : (now m : ℕ) (t : State) → now < pause_end t → Has m (keepalive_times t) → now < m

@@ -6,7 +6,7 @@ use Rattle.turn_client_laws.proofs.Machine.{Poll, PollTransmit, PollEvent, Relay
 use Rattle.turn_client_laws.proofs.Machine.{AllocationCreateFailed, Origin, ServerRequest, Relay, Phase, New, Allocated, Closed, bound_by, channel_step, channels_to, connect_step, is_open_to}
 use Rattle.turn_client_laws.proofs.Machine.{free_number, in_allocation, is_allocated, is_closed, is_control, is_in_progress, is_local_taken, offer_origin, permission_step, reserved_from}
 use Rattle.turn_client_laws.proofs.Machine.{socket_opened, socket_refused, socket_step, connection_at, is_connected, is_connecting, is_paused, keepalive_times, closed, fail_all, allocations}
-use Rattle.turn_client_laws.proofs.Machine.{find_allocation_to, has_active_permission, is_past, permission_state, same_transport, connection_gone, state_after, idle_step, keepalive_step, queue_step}
+use Rattle.turn_client_laws.proofs.Machine.{find_allocation_to, has_active_permission, is_past, permission_state, same_transport, connection_gone, state_after, idle_step, keepalive_step, next_queued, queue_step}
 use Rattle.turn_client_laws.proofs.Machine.{refreshes_in, reply_step, transmit_step, Has, has-append, is_permission_of}
 use Rattle.turn_client_laws.proofs.Laws.{TakesInput, by_found, by_test, send_to-by, has-mapped, has-contains}
 use Rattle.turn_client_runs.specs.Events.{FailsItself}
@@ -52,7 +52,7 @@ module _ (s : State) where
   transmit-leaves now =
       by_found Leaves _ (due (agent_of s) now) _ (λ t e. refl)
       (by_test Leaves (is_paused now s) (reply_step s) (queue_step now s) (λ e. refl)
-      (λ e. by_found Leaves _ (slice_get s.queue 0) (idle_step s.phase now s) (λ q f. refl) (idle-leaves s.phase now)))
+      (λ e. by_found Leaves _ (next_queued now s) (idle_step s.phase now s) (λ q f. refl) (idle-leaves s.phase now)))
 
   pub gone-events : (local : SocketAddr) → Same (connection_gone local s)
   gone-events local = by_test Same (is_some (connection_at local s)) _ s (λ e. refl) (λ e. refl)

@@ -1,17 +1,17 @@
 -- A client whose server answers its first requests.
 use Rattle.turn_client_laws.proofs.Common.{◌≡◌, ◌≢◌, ◌⊎◌, ℕ, ◌+◌, ◌^◌, ◌<◌, ◌≤◌, min, Bool, true, false, cond, ◌&&◌, ◌||◌, ltb, eqb, List, [], ◌∷◌, ◌++◌, map, drop, Option, Some, None, refl, inl, inr, ap}
-use Rattle.turn_client_laws.proofs.Common.{All, sym, subst, ◌∙◌, arith, IfSome, IsSome, filter, if◌then◌else◌, nat_le, slice_get, list_any, option_map_or, and_parts, eq-eqb, eqb-true, lt-ltb}
+use Rattle.turn_client_laws.proofs.Common.{All, sym, subst, ◌∙◌, arith, IfSome, IsSome, filter, if◌then◌else◌, nat_le, list_any, option_map_or, and_parts, eq-eqb, eqb-true, lt-ltb}
 use Rattle.turn_client_laws.proofs.Common.{SocketAddr}
 use Rattle.turn_client_laws.proofs.Machine.{id_of, Success, Udp, Transmit, Challenge, IsValidated, validation_of, Validation, Validated, ResendRequest, Refused, challenge_of-sound, due, first_sent}
 use Rattle.turn_client_laws.proofs.Machine.{is_outstanding, is_response, timed_out_transaction, without_transaction, wait_at, Transaction, timers_of, State, agent_of, auth_of, initial, Phase, New}
 use Rattle.turn_client_laws.proofs.Machine.{Requesting, Authenticating, Allocated, Queued, Listing, Purpose, ForAllocation, DataOffer, Relay, allocations, is_for_allocation, purposes_of}
 use Rattle.turn_client_laws.proofs.Machine.{binding_indication, first_allocate, fresh_id, id_used, listings, request_for, Challenged, SignedSuccess, answers_one, answers_allocate, challenge_in}
 use Rattle.turn_client_laws.proofs.Machine.{class_in, judgement_of, lifetime_in, allocate_granted, allocated, phase_with, relayed_in, taken_addresses, transaction_ended, state_after_retry, has_event}
-use Rattle.turn_client_laws.proofs.Machine.{has_reply, is_paused, keepalive_times, Outcome, Handled, message_step, signed_step, idle_step, keepalive_step, queue_step, reply_step, sent_at_once}
+use Rattle.turn_client_laws.proofs.Machine.{has_reply, is_paused, keepalive_times, Outcome, Handled, message_step, signed_step, idle_step, keepalive_step, next_queued, queue_step, reply_step, sent_at_once}
 use Rattle.turn_client_laws.proofs.Machine.{transmit_step, front_sent, id_in_header, waits_begun, waits_from, answer_by, answer_step, expired_at, next_offer, offer_step, poll_step, timed_out_step, timed_step, packet_step, state_after, state_after_all}
 use Rattle.turn_client_laws.proofs.Machine.{Call, Poll, PollTransmit, PollEvent, Recv, Has, all-has, cases_Option, filter-none, has-all, has-append, Config, later_by, seconds, Grant, Allocation}
 use Rattle.turn_client_laws.proofs.Machine.{min_lifetime, new_allocation, Leaves}
-use Rattle.turn_client_laws.proofs.Laws.{answer-by, has-mapped, expired_at-shrinks, HasNoDoubles, FitsPhase, IsUngranted, GrantsHaveAllocations, initial-steady, leaves-steadies}
+use Rattle.turn_client_laws.proofs.Laws.{none-queued, answer-by, has-mapped, expired_at-shrinks, HasNoDoubles, FitsPhase, IsUngranted, GrantsHaveAllocations, initial-steady, leaves-steadies}
 use Rattle.turn_client_laws.proofs.Laws.{GrantsHaveAllocations-AllHaveAllocation, initial-GrantsHaveAllocations, leaves-GrantsHaveAllocations, initial-single, leaves-single, no_reply-kept}
 use Rattle.turn_client_laws.proofs.Laws.{not_due-transmit, no_reply-left}
 use Rattle.std.specs.declared.net.socket_addr.SocketAddr.TheVariants.{V4}
@@ -116,13 +116,13 @@ first-transmit : (delay now until : ℕ) (s : State) (x : Transaction) → IsPla
     → (transmit_step now s).1 ≡ s
 first-transmit delay now until s x p a range e q = rw (not_due-transmit now s (no-due delay now until s x p a range)) (by (is_paused now s))
   where
-    idle : (f : Phase) (qs : List Queued) → f ≡ Requesting → qs ≡ []
-        → (option_map_or (λ q. (Some q.packet, front_sent now q s)) (slice_get qs 0) (idle_step f now s)).1 ≡ s
-    idle f qs g h = rw (g, h) refl
+    idle : (f : Phase) (o : Option Queued) → f ≡ Requesting → o ≡ None
+        → (option_map_or (λ q. (Some q.packet, front_sent now q s)) o (idle_step f now s)).1 ≡ s
+    idle f o g h = rw (g, h) refl
 
     by : (b : Bool) → (if b then reply_step s else queue_step now s).1 ≡ s
     by true = reply-same s p.no_reply
-    by false = idle s.phase s.queue e q
+    by false = idle s.phase (next_queued now s) e (none-queued now s q)
 
 -- the second request is sent, and nothing more
 second-transmit : (delay start now : ℕ) (s : State) (x : Transaction) → IsPlain delay now s → IsAsked delay now (start + delay) s x → now ≤ 2 ^ 62 → s.phase ≡ Authenticating
@@ -166,7 +166,7 @@ second-transmit delay start now s x p a range e = rw (not_due-transmit now s (no
 
     by : (b : Bool) → Next (if b then reply_step s else queue_step now s).1
     by true = subst Next (sym (reply-same s p.no_reply)) same
-    by false = front (slice_get s.queue 0)
+    by false = front (next_queued now s)
 
 abbrev for_allocation : ℕ → Listing
 for_allocation id = record { id = id; purpose = ForAllocation }
@@ -324,7 +324,7 @@ sent-allocated now s e = again (due (agent_of s) now)
 
     wait : (b : Bool) → Is (if b then reply_step s else queue_step now s)
     wait true = e
-    wait false = front (slice_get s.queue 0)
+    wait false = front (next_queued now s)
 
     again : (o : Option Transaction) → Is (option_map_or (λ t. (
       Some (record (Rattle.turn_client_api.specs.Requests.to_server s s.local t.request)

@@ -424,9 +424,6 @@ pub early-paced : (c d x q r now due slots n : ℕ) → d ≡ c → q ≡ r → 
 early-paced c d x q r now due slots n e f fits paused late = rw (e, f) (omega (arith, paused, late, mul-le c r c slots (omega arith) fits))
 
 -- with one more served and nothing queued, one more pause is spared
-pub one-paced : (c now due slots n m : ℕ) → n + 1 ≤ m → now + c * 0 ≤ due + c * (1 + slots + n) → now + c ≤ due + c * (1 + slots + m)
-one-paced c now due slots n m more soon = omega (arith, soon, mul-le c (n + 1) c m (omega arith) more)
-
 -- one more is served, and one more is queued
 pub more-paced : (c x q r due slots n m : ℕ) → r ≡ q + 1 → n + 1 ≤ m → x + c * q ≤ due + c * (1 + slots + n) → x + c * r ≤ due + c * (1 + slots + m)
 more-paced c x q r due slots n m e more h = rw e (omega (arith, h, mul-le c (n + 1) c m (omega arith) more))

@@ -3,7 +3,7 @@ use Rattle.turn_client_laws.proofs.Common.{◌≡◌, ℕ, ◌+◌, ◌*◌, ◌
 use Rattle.turn_client_laws.proofs.Common.{none-some, le-ltb}
 use Rattle.turn_client_laws.proofs.Machine.{due, Transaction, State, agent_of, Grant, Allocation, Channel, Permission, Relay, allocations, as_allocation, family_of, family_of_grant, is_of, is_paused}
 use Rattle.turn_client_laws.proofs.Machine.{pause_end, to_server, Queued, next_refresh, next_transmit, queue_step, refresh_step, transmit_step, Has, filter_map-has, has-all}
-use Rattle.turn_client_laws.proofs.Laws.{same_family-self, not_due-transmit, next-sends}
+use Rattle.turn_client_laws.proofs.Laws.{front-sends, same_family-self, not_due-transmit, next-sends}
 use Rattle.turn_client_runs.specs.Lasting.{ahead_of, expiry_of}
 use Rattle.turn_client_runs.specs.Late.{AreAnswered}
 use Rattle.turn_client_runs.specs.History.{History}
@@ -26,9 +26,6 @@ ahead-le ahead (Allocation a) = omega arith
 ahead-le ahead (Permission ip progress) = omega arith
 ahead-le ahead (Channel number peer progress) = omega arith
 ahead-le ahead g = omega arith
-
-queue-sends : (time : ℕ) (s : State) (q : Queued) (qs : List Queued) → s.queue ≡ q ∷ qs → (queue_step time s).0 ≡ Some q.packet
-queue-sends time s q qs e = rw (e, queue_step) refl
 
 module _ (count slots extras : ℕ) (lag : Lag) (delay before start now : ℕ) (past : History) (s : State) (k : IsKept count slots extras lag delay before past s.transactions s)
     (in_time : AreAnswered lag.late delay lag.since before start now past s) where
@@ -60,9 +57,9 @@ module _ (count slots extras : ℕ) (lag : Lag) (delay before start now : ℕ) (
         let time = max lag.since (pause_end s) in
         let idle : is_paused (max time before) s ≡ false = le-ltb (max time before) (pause_end s) (omega arith) in
         let is : transmit_step (max time before) s ≡ queue_step (max time before) s = not_due-transmit (max time before) s (none-was_due time (omega arith) early) ∙ rw idle refl in
-        let some : next_transmit (max time before) s ≡ Some q.packet = rw (is, next_transmit) (queue-sends (max time before) s q qs e) in
-        let none : next_transmit (max time before) s ≡ None = in_time.caller.free time (omega arith) early in
-        absurd (none-some q.packet (sym none ∙ some))
+        let none : (queue_step (max time before) s).0 ≡ None = rw (sym is) (in_time.caller.free time (omega arith) early) in
+        let no : false ≡ true = rw none at (front-sends (max time before) s (q ∷ qs) e (omega arith)) in
+        cc
     | inr late ↦ late
   ]
 

@@ -5,7 +5,8 @@ use Rattle.turn_client_laws.proofs.Common.{or_cases, or_left, or_right, list_any
 use Rattle.turn_client_laws.proofs.Machine.{Transmit, due, first_sent, State, agent_of, Queued, Grant, Allocation, Permission, Channel, Relay, Active, Pending, Reserved, Listing, Purpose, ForRefresh}
 use Rattle.turn_client_laws.proofs.Machine.{ForPermission, ForChannel, allocations, as_allocation, family_of, family_of_grant, has_request, is_for, same_ip, asked_lifetime, binding_indication}
 use Rattle.turn_client_laws.proofs.Machine.{fresh_id, id_used, request_for, to_server, has_reply, is_paused, is_refreshable, keepalive_times, refresh_time, is_due_in, is_refresh_due, keepalive_step}
-use Rattle.turn_client_laws.proofs.Machine.{next_refresh, queue_step, front_sent, id_in_header, waits_begun, refresh_purpose, refreshes_in, refreshes_of_rank, reply_in, reply_step, sent_at_once, transmit_step, Has}
+use Rattle.turn_client_laws.proofs.Machine.{Phase, Allocated, idle_step, is_allocated, next_refresh, refreshes_first, queue_step, front_sent, id_in_header, waits_begun, refresh_purpose, refreshes_in, refreshes_of_rank, reply_in, reply_step, sent_at_once, transmit_step, Has}
+use Rattle.std.proofs.lemmas.Nat.{mul-le}
 use Rattle.turn_client_laws.proofs.Machine.{filter_map-has, first-has, has-filter, has-filter_map, has-flat_map, has-left, has-right}
 use Rattle.turn_client_laws.proofs.Laws.{same_family-self, IsReserved, no_reply-kept, not_due-transmit, no_reply-left}
 use Rattle.std.specs.Prelude.{option_and_then}
@@ -18,7 +19,7 @@ use Rattle.turn_client_runs.proofs.AppendLemmas.{has-last}
 use Rattle.turn_client_runs.proofs.LastingCounts.{passes, passes-more, passes-same}
 use Rattle.turn_client_runs.proofs.LastingHistory.{lone-more}
 use Rattle.turn_client_runs.proofs.LastingStands.{Goes, goes-more, granted-active, leased-active, kept-rest, requested-more, IsActive, IsAwaited, IsIdle, IsRequested, IsLoose, IsUnique, IsKept}
-use Rattle.turn_client_runs.proofs.LastingStands.{IsRefreshing, Stands, allocation-stands, stands-early, bound, bound-le, soon-by, Lag, taken, due_of, left-paced, one-paced, is_served, is_waiting, kind-due, not-waiting}
+use Rattle.turn_client_runs.proofs.LastingStands.{IsRefreshing, Stands, allocation-stands, stands-early, bound, bound-le, extra-paced, soon-by, Lag, taken, due_of, left-paced, is_served, is_waiting, kind-due, not-waiting}
 use Rattle.turn_client_runs.proofs.LastingStands.{served, used}
 use Rattle.turn_client_runs.proofs.LastingSends.{due-sends, is-due, may-refresh, queue-idle}
 use Rattle.turn_client_runs.proofs.LastingBegun.{goes-begun, kept-begun}
@@ -111,7 +112,7 @@ or-false : (b : Bool) → (b || false) ≡ b
 or-false true = refl
 or-false false = refl
 
-module _ (count slots extras : ℕ) (lag : Lag) (delay now : ℕ) (past : History) (s : State) (k : IsKept count slots extras lag delay now past s.transactions s) (empty : s.queue ≡ []) (p : Purpose) (next : IsNext now s p)
+module _ (count slots extras : ℕ) (lag : Lag) (delay now : ℕ) (past : History) (s : State) (k : IsKept count slots extras lag delay now past s.transactions s) (p : Purpose) (next : IsNext now s p)
     (active : IsActive next.grant) (fresh : past.made (fresh_id s) ≡ now) where
   abbrev id : ℕ
   id = fresh_id s
@@ -166,19 +167,21 @@ module _ (count slots extras : ℕ) (lag : Lag) (delay now : ℕ) (past : Histor
           lt-leb (r + 150_000_000_000) (due_of s next.grant)
           (omega (arith, unasked.1, k.behind, soon-by lag.since lag.pace (length s.queue) (bound slots lag past s g) idle.soon, bound-le count slots extras lag delay now past s.transactions s g k there stands.granted idle, k.pace))
 
-  none-left : length s.queue ≡ 0
-  none-left = rw empty refl
-
-  later : (g : Grant) → Has g s.grants → Stands count slots extras lag delay now past s.transactions s g → IsIdle slots lag now past s g → now + s.config.request_cadence ≤ bound slots lag past t g
+  -- what is queued is sent after it
+  later : (g : Grant) → Has g s.grants → Stands count slots extras lag delay now past s.transactions s g → IsIdle slots lag now past s g
+      → now + s.config.request_cadence + lag.pace * length s.queue ≤ bound slots lag past t g
   later g there stands idle = elim (cases_lt (due_of s g) now) [
     | inl late ↦
         let more = serves-more g there stands idle in
-        let soon : lag.since + lag.pace * 0 ≤ due_of s g + lag.pace * (1 + slots + used past s (due_of s g)) = rw none-left at idle.soon in
-        let whole = one-paced lag.pace lag.since (due_of s g) slots (used past s (due_of s g)) (used past t (due_of s g)) (omega (arith, more)) soon in
+        let whole =
+        extra-paced lag.pace lag.since (length s.queue) (due_of s g) slots (used past s (due_of s g)) (used past t (due_of s g)) (omega (arith, more)) idle.soon in
         let paced = k.paced in
         let behind = k.behind in
         omega (arith, whole, paced, behind)
-    | inr early ↦ let paced = k.paced in omega (arith, early, paced)
+    | inr early ↦
+        let paced = k.paced in
+        let few = mul-le lag.pace (length s.queue) lag.pace (slots + used past t (due_of s g)) (omega arith) (let few = k.few in omega (arith, few)) in
+        omega (arith, early, paced, few)
   ]
 
   requested-old : (when : ℕ → Type 0) (g : Grant) → IsRequested when past s.transactions s.listed g → IsRequested when past t.transactions t.listed g
@@ -201,7 +204,7 @@ module _ (count slots extras : ℕ) (lag : Lag) (delay now : ℕ) (past : Histor
         })
         | inr other ↦
             let more = later g there was idle in
-            inr (record { unasked = not-asked g idle.unasked other; near = idle.near; soon = rw none-left (omega (arith, more)); paused = rw none-left (omega (arith, more)) })
+            inr (record { unasked = not-asked g idle.unasked other; near = idle.near; soon = omega (arith, more); paused = omega (arith, more) })
       ]
 
   -- a permission or a channel that is asked for now is the one that is due
@@ -406,32 +409,38 @@ transmit-kept count slots extras lag delay now past s k fresh none = rw (not_due
     )
     keeps false empty e = (k, goes-more past s.transactions s.transactions s s refl (λ x h. h) (λ l h. h))
 
-    sends : s.queue ≡ [] → (p : Purpose) (next : IsNext now s p) → IsActive next.grant → Keeps (sent_at_once (request_for s p (fresh_id s)) p now s)
-    sends empty p next active = (
-      kept-sent count slots extras lag delay now past s k empty p next active fresh,
-      goes-sent count slots extras lag delay now past s k empty p next active fresh,
-    )
+    sends : (p : Purpose) (next : IsNext now s p) → IsActive next.grant → Keeps (sent_at_once (request_for s p (fresh_id s)) p now s)
+    sends p next active =
+        (kept-sent count slots extras lag delay now past s k p next active fresh, goes-sent count slots extras lag delay now past s k p next active fresh)
+
+    -- what is refreshed
+    renews : (p : Purpose) → next_refresh now s ≡ Some p → Keeps (sent_at_once (request_for s p (fresh_id s)) p now s)
+    renews p e =
+        let next = next-of now s p e in
+        elim (k.each next.grant next.there) [
+          | inl waits ↦ absurd (due-granted now s next.grant waits.0 next.is_due)
+          | inr (inl stands) ↦ sends p next (granted-active next.grant stands.granted)
+          | inr (inr (inl (freed, leased))) ↦ sends p next (leased-active next.grant leased)
+          | inr (inr (inr (is, none))) ↦ absurd (due-unreserved now s next.grant is next.is_due)
+        ]
 
     refreshes : s.queue ≡ [] → (o : Option Purpose) → next_refresh now s ≡ o
         → Keeps (option_map_or (λ purpose. sent_at_once (request_for s purpose (fresh_id s)) purpose now s) o (keepalive_step now s))
     refreshes empty None e = keeps (list_any (λ time. nat_le time now) (keepalive_times s)) empty e
-    refreshes empty (Some p) e =
-        let next = next-of now s p e in
-        elim (k.each next.grant next.there) [
-          | inl waits ↦ absurd (due-granted now s next.grant waits.0 next.is_due)
-          | inr (inl stands) ↦ sends empty p next (granted-active next.grant stands.granted)
-          | inr (inr (inl (freed, leased))) ↦ sends empty p next (leased-active next.grant leased)
-          | inr (inr (inr (is, none))) ↦ absurd (due-unreserved now s next.grant is next.is_due)
-        ]
+    refreshes empty (Some p) e = renews p e
+
+    -- a refresh goes first, and the client has allocations
+    first : (o : Option Purpose) → next_refresh now s ≡ o → is_some o ≡ true
+        → Keeps (option_map_or (λ purpose. sent_at_once (request_for s purpose (fresh_id s)) purpose now s) o (keepalive_step now s))
+    first None e some = cc
+    first (Some p) e some = renews p e
 
     queued : (queue : List Queued) → s.queue ≡ queue → Keeps (queue_step now s)
     queued [] e = rw (queue-idle now s e k.phase) (refreshes e (next_refresh now s) refl)
-    queued (q ∷ qs) e =
-        let is : queue_step now s ≡ (Some q.packet, front_sent now q s) = front s.queue e in
-        subst Keeps (sym is) (by (s.config.timed_from_send && q.is_request) (id_in_header q.packet.payload))
+    queued (q ∷ qs) e = chosen (refreshes_first now s) refl
       where
         front : (queue : List Queued) → queue ≡ q ∷ qs
-            → (option_map_or (λ q. (Some q.packet, front_sent now q s)) (slice_get queue 0) (Rattle.turn_client_api.specs.Transmit.idle_step s.phase now s))
+            → (option_map_or (λ q. (Some q.packet, front_sent now q s)) (slice_get queue 0) (idle_step s.phase now s))
             ≡ (Some q.packet, front_sent now q s)
         front queue e = rw e refl
 
@@ -450,6 +459,16 @@ transmit-kept count slots extras lag delay now past s k fresh none = rw (not_due
         by true (Some id) = (kept-begun count slots extras (taken now lag) delay now past v left id, goes-begun count slots extras (taken now lag) delay now past v left id s refl refl)
         by true None = same-left
         by false o = same-left
+
+        at_once : (phase : Phase) → phase ≡ Allocated → refreshes_first now s ≡ true → Keeps (idle_step phase now s)
+        at_once phase is e =
+            let some = (and_parts (s.config.timed_from_send && is_allocated s.phase) (is_some (next_refresh now s)) e).1 in
+            rw is (first (next_refresh now s) refl some)
+
+        chosen : (b : Bool) → refreshes_first now s ≡ b
+            → Keeps (option_map_or (λ (q : Queued). (Some q.packet, front_sent now q s)) (cond {A = Option Queued} b None (slice_get s.queue 0)) (idle_step s.phase now s))
+        chosen true first_is = at_once s.phase k.phase first_is
+        chosen false first_is = subst Keeps (sym (front s.queue e)) (by (s.config.timed_from_send && q.is_request) (id_in_header q.packet.payload))
 
     by : (b : Bool) → Keeps (if b then reply_step s else queue_step now s)
     by true = same (reply_step s) (empty-kept s k.requests)

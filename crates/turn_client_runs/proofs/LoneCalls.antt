@@ -9,7 +9,7 @@ use Rattle.turn_client_laws.proofs.Machine.{missing_permission, offer_origin, pe
 use Rattle.turn_client_laws.proofs.Machine.{has_reply, is_paused, keepalive_times, closed, transaction_ended, allocations, family_of, find_allocation_to, has_active_permission, is_of, is_past}
 use Rattle.turn_client_laws.proofs.Machine.{is_permission_of, permission_state, same_transport, allocation_expires, answer_step, channel_expired, is_expired_channel, is_listed_for_allocation}
 use Rattle.turn_client_laws.proofs.Machine.{expired_at, expired_allocation, expired_in, next_offer, poll_step, timed_out_purposes, timed_out_step, timed_step, state_after, idle_step, keepalive_step}
-use Rattle.turn_client_laws.proofs.Machine.{queue_step, refreshes_in, reply_step, transmit_step, Has, expired_in-does}
+use Rattle.turn_client_laws.proofs.Machine.{next_queued, queue_step, refreshes_in, reply_step, transmit_step, Has, expired_in-does}
 use Rattle.turn_client_laws.proofs.Laws.{Input, handled, answer-by, by_found, by_test, send_to-by, has-mapped, poll_recv-kept, recv-kept, before-kept}
 use Rattle.turn_client_runs.proofs.LoneConnects.{HasLoneConnects, KeepsLone, KeepsLone-IsKept, asks-filtered, asks-lone, asks-one, fold-lone, gone-lone, lone-filter}
 
@@ -81,7 +81,7 @@ module _ (s : State) where
   transmit-lone now =
       by_found Leaves _ (due (agent_of s) now) _ (λ t f. same)
       (by_test Leaves (is_paused now s) (reply_step s) (queue_step now s) (λ f. same)
-      (λ f. by_found Leaves _ (slice_get s.queue 0) (idle_step s.phase now s) (λ q g. same) (idle-lone s.phase now)))
+      (λ f. by_found Leaves _ (next_queued now s) (idle_step s.phase now s) (λ q g. same) (idle-lone s.phase now)))
 
 -- ---- time
 

@@ -6,7 +6,7 @@ use Rattle.turn_client_laws.proofs.Machine.{SendTo, Recv, PollRecv, Poll, PollTr
 use Rattle.turn_client_laws.proofs.Machine.{TurnEvent, DataConnection, Grant, Connection, Offer, Origin, ServerRequest, Relay, Phase, New, Allocated, deleted, in_allocation, is_allocated, is_closed}
 use Rattle.turn_client_laws.proofs.Machine.{is_control, is_granted_in, is_local_taken, is_offer_of, is_open_to, keep_step, marked, marked_if, offer_origin, offer_taken, socket_opened, socket_refused}
 use Rattle.turn_client_laws.proofs.Machine.{socket_step, with_marks, without_first, is_paused, keepalive_times, closed, fail_all, allocations, changed_allocation, family_of_ip, is_of_family, is_past}
-use Rattle.turn_client_laws.proofs.Machine.{is_permission_of, same_transport, with_expired, without_grants, connection_gone, bind_time, state_after, idle_step, keepalive_step, queue_step}
+use Rattle.turn_client_laws.proofs.Machine.{is_permission_of, same_transport, with_expired, without_grants, connection_gone, bind_time, state_after, idle_step, keepalive_step, next_queued, queue_step}
 use Rattle.turn_client_laws.proofs.Machine.{refreshes_in, reply_step, transmit_step, same_address-true, filter-none}
 use Rattle.turn_client_laws.proofs.Laws.{by_found, by_test, send_to-by, has-any}
 use Rattle.turn_client_runs.specs.Reported.{is_to_come}
@@ -114,7 +114,7 @@ module _ (e : TurnEvent) (s : State) where
   transmit-sends now =
       by_found Sends _ (due (agent_of s) now) _ (λ t f. (refl, refl, refl))
       (by_test Sends (is_paused now s) (reply_step s) (queue_step now s) (λ f. (refl, refl, refl))
-      (λ f. by_found Sends _ (slice_get s.queue 0) (idle_step s.phase now s) (λ q g. (refl, refl, refl)) (idle-sends s.phase now)))
+      (λ f. by_found Sends _ (next_queued now s) (idle_step s.phase now s) (λ q g. (refl, refl, refl)) (idle-sends s.phase now)))
 
   -- ---- what is kept, and the end
 

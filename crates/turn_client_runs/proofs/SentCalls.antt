@@ -10,7 +10,7 @@ use Rattle.turn_client_laws.proofs.Machine.{is_allocated, is_closed, is_control,
 use Rattle.turn_client_laws.proofs.Machine.{socket_refused, socket_step, connection_at, is_connected, is_connecting, has_event, has_reply, is_paused, keepalive_times, closed, fail_all}
 use Rattle.turn_client_laws.proofs.Machine.{transaction_ended, allocations, family_of, family_of_ip, find_allocation_to, has_active_permission, is_past, is_permission_of, permission_state}
 use Rattle.turn_client_laws.proofs.Machine.{same_transport, with_expired, with_grant, answer_step, is_listed_for_allocation, expired_at, next_offer, offer_step, poll_step, timed_out_step, timed_step}
-use Rattle.turn_client_laws.proofs.Machine.{accepted_reply, asked_lifetime, connection_timed_out, fresh_id, requested, bind_time, state_after, idle_step, is_due_in, keepalive_step, queue_step}
+use Rattle.turn_client_laws.proofs.Machine.{accepted_reply, asked_lifetime, connection_timed_out, fresh_id, requested, bind_time, state_after, idle_step, is_due_in, keepalive_step, next_queued, queue_step}
 use Rattle.turn_client_laws.proofs.Machine.{refresh_purpose, refreshes_in, refreshes_of_rank, reply_step, transmit_step, without_first_reply, Has, first-has, has-filter_map, has-flat_map}
 use Rattle.turn_client_laws.proofs.Laws.{TakesInput, AsksFor, IsListedFor, answer-by, by_found, by_test, send_to-by, expired_at-shrinks, Adds, adds-one, adds-same, listings-made, contains-has}
 use Rattle.turn_client_laws.proofs.Laws.{has-contains}
@@ -152,7 +152,7 @@ module _ (call : Call) (s : State) where
   transmit-queues now =
       by_found Leaves _ (due (agent_of s) now) _ (λ t e. λ q there. inl there)
       (by_test Leaves (is_paused now s) (reply_step s) (queue_step now s) (λ e. fewer (reply_step s).1 (unreplied-has s.queue))
-      (λ e. by_found Leaves _ (slice_get s.queue 0) (idle_step s.phase now s) (λ q f. λ x there. inl (has-dropped s.queue x there)) (idle-queues s.phase now)))
+      (λ e. by_found Leaves _ (next_queued now s) (idle_step s.phase now s) (λ q f. λ x there. inl (has-dropped s.queue x there)) (idle-queues s.phase now)))
 
 -- the caller opened a data connection, or could not
 module _ (id : ℕ) (tuple : Socket5Tuple) (peer : SocketAddr) (now : ℕ) (s : State) where

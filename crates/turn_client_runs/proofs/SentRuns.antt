@@ -6,9 +6,9 @@ use Rattle.turn_client_laws.proofs.Machine.{id_of, TransportType, Udp, Tcp, Tran
 use Rattle.turn_client_laws.proofs.Machine.{initial, Call, Recv, PollRecv, DataConnection, Grant, Channel, Connection, Lease, Listing, Active, Purpose, ForBind, Phase, New, Requesting, Allocated}
 use Rattle.turn_client_laws.proofs.Machine.{Queued, active_channel, bound_to, can_send_to, on_channel, on_connection, send_over, send_to_step, bind_step, connection_at, is_paused, keepalive_times}
 use Rattle.turn_client_laws.proofs.Machine.{allocations, as_connection, purposes_of, message_step, connection_gone, binding_indication, first_allocate, fresh_id, request_for, state_after}
-use Rattle.turn_client_laws.proofs.Machine.{state_after_all, idle_step, keepalive_step, queue_step, refreshes_in, reply_in, reply_step, sent_at_once, transmit_step, same_address-true, Has, first-has}
+use Rattle.turn_client_laws.proofs.Machine.{state_after_all, idle_step, keepalive_step, next_queued, queue_step, refreshes_in, reply_in, reply_step, sent_at_once, transmit_step, same_address-true, Has, first-has}
 use Rattle.turn_client_laws.proofs.Machine.{has-all, has-filter_map, has-found}
-use Rattle.turn_client_laws.proofs.Laws.{TakesInput, IsAnswer, AsksServer, IsToServer, by_found, by_test, KeepsAllEdits, calls-walk, edits-IsKept, purposes-listed, bind-moves, message-moves, on_test}
+use Rattle.turn_client_laws.proofs.Laws.{queued-first, TakesInput, IsAnswer, AsksServer, IsToServer, by_found, by_test, KeepsAllEdits, calls-walk, edits-IsKept, purposes-listed, bind-moves, message-moves, on_test}
 use Rattle.turn_client_laws.proofs.Laws.{gone-settles, all-phase-edits, IsKept, poll_recv-kept, recv-kept, contains-has, has-contains}
 use Rattle.turn_client_api.specs.declared.error.SendError.{SendError}
 use Rattle.turn_client_laws.proofs.SentToServer.{initial-AsksServer, leaves-AsksServer}
@@ -190,7 +190,7 @@ module _ (calls : List Call) (first s : State) (now : ℕ) (well : GoesWell (λ 
   transmit-goes =
       by_found Sends _ (due (agent_of s) now) _ (λ x e. some-sends _ (resent-goes x e))
       (by_test Sends (is_paused now s) (reply_step s) (queue_step now s) (λ e. reply-goes)
-      (λ e. by_found Sends _ (slice_get s.queue 0) (idle_step s.phase now s) (λ q f. some-sends _ (queued-goes q (first-has q s.queue f))) (idle-goes s.phase)))
+      (λ e. by_found Sends _ (next_queued now s) (idle_step s.phase now s) (λ q f. some-sends _ (queued-goes q (first-has q s.queue (queued-first now s q f)))) (idle-goes s.phase)))
 
 -- ---- data for a peer
 

@@ -6,7 +6,7 @@ use Rattle.turn_client_laws.proofs.Machine.{resends_of, schedule, udp_resends, w
 use Rattle.turn_client_laws.proofs.Machine.{transaction_ended, first_allocate, fresh_id, TurnEvent, first_sent, is_paused, pause_end, idle_step, next_transmit, queue_step, reply_step, transmit_step}
 use Rattle.turn_client_laws.proofs.Machine.{without_first_reply, answer_by, answer_step, next_offer, poll_step, timed_out_step, timed_step, state_after, state_after_all, Call, Poll, PollTransmit}
 use Rattle.turn_client_laws.proofs.Machine.{PollEvent}
-use Rattle.turn_client_laws.proofs.Laws.{call-keeps, not_due-transmit}
+use Rattle.turn_client_laws.proofs.Laws.{none-queued, call-keeps, not_due-transmit}
 use Rattle.turn_agent.proofs.ScheduleLemmas.{sum-schedule}
 use Rattle.turn_client_runs.proofs.ChallengeLemmas.{run-configured}
 use Rattle.turn_client_runs.specs.History.{waited}
@@ -85,7 +85,7 @@ data IsSilent (start now : ℕ) (s : State) : Type 0 where
 -- ---- what it sends
 
 pub queue-idle : (now : ℕ) (s : State) (p : Phase) → s.queue ≡ [] → s.phase ≡ p → queue_step now s ≡ idle_step p now s
-queue-idle now s p e f = rw (e, queue_step, f) refl
+queue-idle now s p e f = rw (none-queued now s e, f) refl
 
 pub unsent-transmits : (start before now : ℕ) (s : State) → IsUnsent start before s → transmit_step now s ≡ idle_step New now s
 unsent-transmits start before now s u =

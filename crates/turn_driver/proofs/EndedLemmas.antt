@@ -2,7 +2,7 @@
 use Rattle.turn_client_laws.proofs.Common.{◌≡◌, ◌∙◌, ℕ, Bool, true, false, cond, List, [], ◌∷◌, Option, Some, None, ap, filter_map, refl, slice_get, subst, sym, option_map_or, cons_option, list_any}
 use Rattle.turn_client_laws.proofs.Common.{IfOk, OnOk, Result, Ok, Err, nat_le}
 use Rattle.turn_client_laws.proofs.Machine.{Transmit, due, State, agent_of, Phase, New, Requesting, Authenticating, Allocated, Closed, Queued, is_paused, keepalive_times, binding_indication, fresh_id}
-use Rattle.turn_client_laws.proofs.Machine.{id_used, to_server, idle_step, keepalive_step, queue_step, refresh_step, reply_in, reply_step, sent, transmit_step, without_first_reply, TurnEvent}
+use Rattle.turn_client_laws.proofs.Machine.{id_used, to_server, idle_step, keepalive_step, next_queued, queue_step, refresh_step, reply_in, reply_step, sent, transmit_step, without_first_reply, TurnEvent}
 use Rattle.turn_client_laws.proofs.Machine.{event_step}
 use Rattle.turn_driver.specs.Next.{AnswersRest, answer_of, to_send, to_report, waiting}
 use Rattle.turn_driver.specs.declared.next.Next.{Next}
@@ -54,7 +54,7 @@ idle-IsIdle Allocated now s = refresh-IsIdle now s
 idle-IsIdle Closed now s = λ none. refl
 
 queue-IsIdle : (now : ℕ) (s : State) → IsIdle s (queue_step now s)
-queue-IsIdle now s = option-IsIdle s (slice_get s.queue 0) _ (idle_step s.phase now s) (λ q. some-IsIdle s _ _) (idle-IsIdle s.phase now s)
+queue-IsIdle now s = option-IsIdle s (next_queued now s) _ (idle_step s.phase now s) (λ q. some-IsIdle s _ _) (idle-IsIdle s.phase now s)
 
 paused-IsIdle : (paused : Bool) (now : ℕ) (s : State) → IsIdle s (cond paused (reply_step s) (queue_step now s))
 paused-IsIdle true now s = reply-IsIdle s

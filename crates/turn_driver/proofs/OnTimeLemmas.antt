@@ -1,10 +1,10 @@
 -- A loop is on time.
 use Rattle.turn_client_laws.proofs.Common.{◌≡◌, ◌∙◌, ltb, ℕ, ◌^◌, ◌≤◌, Bool, true, false, cond, List, [], ◌∷◌, ◌++◌, Option, Some, None, ap, arith, inl, inr, refl, subst, sym, slice_get, IfOk, Ok}
-use Rattle.turn_client_laws.proofs.Common.{Err, Result, filter_map, flat_map, nat_le, AllByRecursion, list_any, cases_Bool, ltb-false, ltb-true}
+use Rattle.turn_client_laws.proofs.Common.{◌&&◌, is_some, Err, Result, filter_map, flat_map, nat_le, AllByRecursion, list_any, cases_Bool, ltb-false, ltb-true}
 use Rattle.turn_client_laws.proofs.Machine.{Transmit, due, Transaction, State, agent_of, Phase, New, Requesting, Authenticating, Allocated, Closed, Queued, Call, Recv, PollEvent, TurnEvent, Grant}
 use Rattle.turn_client_laws.proofs.Machine.{Allocation, Permission, Channel, Connect, Offer, Connection, Purpose, Relay, allocations, family_of, AddressFamily, is_paused, keepalive_times}
 use Rattle.turn_client_laws.proofs.Machine.{refresh_time, state_after, state_after_all, idle_step, is_due_in, is_refresh_due, keepalive_step, next_refresh, next_transmit, queue_step, refresh_purpose}
-use Rattle.turn_client_laws.proofs.Machine.{refresh_step, refreshes_in, refreshes_of_rank, reply_step}
+use Rattle.turn_client_laws.proofs.Machine.{is_allocated, next_queued, refresh_step, refreshes_in, refreshes_of_rank, reply_step}
 use Rattle.turn_client_runs.specs.OnTime.{IsOnTime, time_of, time_of_all}
 use Rattle.turn_driver.specs.Next.{IsRestful}
 use Rattle.turn_driver.specs.OnTime.{AllOnTime, BeginsInTime, IsLoop, Iteration, LoopsAreOnTime, WakesOnTime, calls_in, calls_of}
@@ -60,12 +60,16 @@ module _ (now : ℕ) (s : State) (events : List TurnEvent) where
   idle-same Allocated = refresh-same
   idle-same Closed = refl
 
+  front-same : next_queued now other ≡ next_queued now s
+  front-same =
+      ap (λ (o : Option Purpose). cond {A = Option Queued} (s.config.timed_from_send && is_allocated s.phase && is_some o) None (slice_get s.queue 0)) due-same
+
   queue-same : (queue_step now other).0 ≡ (queue_step now s).0
-  queue-same = by (slice_get s.queue 0) refl
+  queue-same = by (next_queued now s) refl
     where
-      by : (o : Option Queued) → slice_get s.queue 0 ≡ o → (queue_step now other).0 ≡ (queue_step now s).0
-      by None e = rw e (idle-same s.phase)
-      by (Some q) e = rw e refl
+      by : (o : Option Queued) → next_queued now s ≡ o → (queue_step now other).0 ≡ (queue_step now s).0
+      by None e = rw (front-same, e) (idle-same s.phase)
+      by (Some q) e = rw (front-same, e) refl
 
   pub packet-same : next_transmit now other ≡ next_transmit now s
   packet-same = by (due (agent_of s) now) refl

@@ -3,10 +3,10 @@ use Rattle.turn_client_laws.proofs.Common.{◌≡◌, ◌∙◌, ℕ, ◌^◌, �
 use Rattle.turn_client_laws.proofs.Common.{IfSome, cases_lt, drop, map, nat_le, option_to_list, slice_get, list_any, option_map_or, and_parts, cases_Bool, eq-eqb, leb-true, cond_some, none-some}
 use Rattle.turn_client_laws.proofs.Machine.{Transmit, due, first_sent, is_due, resent, transaction_timeout, wait_at, Transaction, timers_of, has_allocation_in_use, is_paused, is_refreshable}
 use Rattle.turn_client_laws.proofs.Machine.{keepalive_times, pause_end, refresh_time, refresh_time_by_kind, family_of, has_request, is_for, asked_lifetime, binding_indication, fresh_id, id_used}
-use Rattle.turn_client_laws.proofs.Machine.{request_for, to_server, State, agent_of, later_by, idle_step, is_refresh_due, keepalive_step, next_refresh, begun_by, front_sent, id_in_header, waits_begun, queue_step, refresh_purpose, refresh_step}
+use Rattle.turn_client_laws.proofs.Machine.{request_for, to_server, State, agent_of, later_by, idle_step, is_refresh_due, keepalive_step, next_queued, next_refresh, begun_by, front_sent, id_in_header, waits_begun, queue_step, refresh_purpose, refresh_step}
 use Rattle.turn_client_laws.proofs.Machine.{reply_step, sent, sent_at_once, transmit_step, Grant, Allocation, Channel, Permission, Active, Purpose, ForChannel, ForPermission, ForRefresh, Phase, New}
 use Rattle.turn_client_laws.proofs.Machine.{Requesting, Authenticating, Allocated, Closed, Queued, Has, has-found}
-use Rattle.turn_client_laws.proofs.Laws.{same_ip-same, same_family-self}
+use Rattle.turn_client_laws.proofs.Laws.{queued-first, same_ip-same, same_family-self}
 use Rattle.std.specs.Prelude.{option_and_then}
 use Rattle.turn_client_runs.proofs.LastingTransmits.{IsNext, next-of}
 use Rattle.turn_driver.proofs.RestSends.{reply-shorter}
@@ -157,14 +157,14 @@ module _ (now : ℕ) (s : State) (range : now ≤ 2 ^ 62) (waits : (place : ℕ)
   pub transmit-awaits : Sends (transmit_step now s)
   transmit-awaits = by (due (agent_of s) now) refl
     where
-      queued : (o : Option Queued) → slice_get s.queue 0 ≡ o
+      queued : (o : Option Queued) → next_queued now s ≡ o
           → Sends (option_map_or (λ q. (Some q.packet, front_sent now q s)) o (idle_step s.phase now s))
       queued None e packet f = idles s.phase refl packet f
-      queued (Some q) e packet f = queues q e (begun_by now q s) (begins q)
+      queued (Some q) e packet f = queues q (queued-first now s q e) (begun_by now q s) (begins q)
 
       paused : (b : Bool) → Sends (cond b (reply_step s) (queue_step now s))
       paused true = replies
-      paused false = queued (slice_get s.queue 0) refl
+      paused false = queued (next_queued now s) refl
 
       by : (o : Option Transaction) → due (agent_of s) now ≡ o → Sends (option_map_or
           (λ t. (Some (record (to_server s s.local t.request) { to = t.to }), sent now (record s { transactions = resent t.id now s.transactions }))) o

@@ -1,10 +1,10 @@
 -- What `poll_transmit` sends, step by step.
-use Rattle.turn_client_laws.proofs.Common.{◌≡◌, ◌∙◌, ℕ, Bool, true, false, List, [], ◌∷◌, Option, Some, None, append-nil, refl, ap, false≢true, IsSome, if◌then◌else◌, filter_map, find, slice_get}
+use Rattle.turn_client_laws.proofs.Common.{◌≡◌, ◌∙◌, ℕ, Bool, true, false, List, [], ◌∷◌, Option, Some, None, append-nil, refl, sym, ap, false≢true, IsSome, if◌then◌else◌, filter_map, find, slice_get}
 use Rattle.turn_client_laws.proofs.Machine.{Transmit, TransportType, AddressFamily, due, is_due, Transaction, timers_of, is_paused, allocations, with_more_grants, request_started, first_allocate}
-use Rattle.turn_client_laws.proofs.Machine.{fresh_id, request_for, to_server, State, agent_of, idle_step, keepalive_step, queue_step, refresh_step, sent, sent_at_once, transmit_step, Grant, Purpose}
+use Rattle.turn_client_laws.proofs.Machine.{fresh_id, request_for, to_server, State, agent_of, idle_step, keepalive_step, next_refresh, queue_step, refresh_step, refreshes_first, sent, sent_at_once, transmit_step, Grant, Purpose}
 use Rattle.turn_client_laws.proofs.Machine.{Queued}
 use Rattle.turn_client_core.specs.Outgoing.{Outgoing, packet_of}
-use Rattle.turn_client_core.specs.Sending.{first_reply_step, front_step, resend_step, waiting_step}
+use Rattle.turn_client_core.specs.Sending.{front_step, resend_step, waiting_step}
 use Rattle.turn_client_grants.specs.Asked.{Asks}
 use Rattle.turn_client_grants.specs.Ledger.{Ledger, with_ledger}
 use Rattle.turn_client_grants.specs.Refresh.{first_refresh}
@@ -33,24 +33,24 @@ resends-first now s o times = by (find (is_due o.timers o.transport now) o.trans
     by None e = rw (← times, e) refl
     by (Some t) e = rw (← times, e) refl
 
--- then the first queued packet
-front-first : (now : ℕ) (s : State) (o : Outgoing) → sent_or (idle_step s.phase now) s (front_step s.config.timed_from_send now o) ≡ queue_step now (with_outbox o s)
-front-first now s o = by (slice_get o.queue 0) refl
+-- then the first queued packet, unless a refresh goes before it
+front-first : (now : ℕ) (s : State) (o : Outgoing) → refreshes_first now (with_outbox o s) ≡ false
+    → sent_or (idle_step s.phase now) s (front_step s.config.timed_from_send now o) ≡ queue_step now (with_outbox o s)
+front-first now s o later = by (slice_get o.queue 0) refl
   where
     by : (found : Option Queued) → slice_get o.queue 0 ≡ found → sent_or (idle_step s.phase now) s (front_step s.config.timed_from_send now o) ≡ queue_step now (with_outbox o s)
-    by None e = rw e refl
-    by (Some q) e = rw e refl
+    by None e = rw (later, e) refl
+    by (Some q) e = rw (later, e) refl
 
--- what is taken of the queue is sent next, within the pause or not
-pub queued-some : (paused : Bool) (now : ℕ) (s : State) (o p : Outgoing) (packet : Transmit (List ℕ)) → is_paused now (with_outbox o s) ≡ paused
-    → ◌≡◌ {A = Sent} (Some packet, p) (if paused then first_reply_step o else front_step s.config.timed_from_send now o) → ◌≡◌ {A = Packet × State} (Some packet, with_outbox p s) (waiting_step now (with_outbox o s))
-queued-some true now s o p packet is step = rw is (ap (λ (r : Sent). (r.0, with_outbox r.1 s)) step)
-queued-some false now s o p packet is step = rw is (ap (sent_or (idle_step s.phase now) s) step ∙ front-first now s o)
+-- what is taken of the queue is sent next
+pub queued-some : (now : ℕ) (s : State) (o p : Outgoing) (packet : Transmit (List ℕ)) → refreshes_first now (with_outbox o s) ≡ false
+    → ◌≡◌ {A = Sent} (Some packet, p) (front_step s.config.timed_from_send now o) → ◌≡◌ {A = Packet × State} (Some packet, with_outbox p s) (queue_step now (with_outbox o s))
+queued-some now s o p packet later step = ap (sent_or (idle_step s.phase now) s) step ∙ front-first now s o later
 
--- with nothing queued, and outside the pause, what the client has to request
-pub queued-none : (now : ℕ) (s : State) (o p : Outgoing) → is_paused now (with_outbox o s) ≡ false → ◌≡◌ {A = Sent} (None, p) (front_step s.config.timed_from_send now o)
-    → idle_step s.phase now (with_outbox p s) ≡ waiting_step now (with_outbox o s)
-queued-none now s o p is step = rw is (ap (sent_or (idle_step s.phase now) s) step ∙ front-first now s o)
+-- with nothing queued, what the client has to request
+pub queued-none : (now : ℕ) (s : State) (o p : Outgoing) → refreshes_first now (with_outbox o s) ≡ false → ◌≡◌ {A = Sent} (None, p) (front_step s.config.timed_from_send now o)
+    → idle_step s.phase now (with_outbox p s) ≡ queue_step now (with_outbox o s)
+queued-none now s o p later step = ap (sent_or (idle_step s.phase now) s) step ∙ front-first now s o later
 
 -- ---- a request that is sent at once
 
@@ -76,6 +76,9 @@ first-text-is s transport families id text over request_started next is =
 pub refresh-some : (now : ℕ) (s : State) (purpose : Purpose) → slice_get (filter_map (first_refresh now s) (allocations s)) 0 ≡ Some purpose
     → refresh_step now s ≡ sent_at_once (request_for s purpose (fresh_id s)) purpose now s
 refresh-some now s purpose found = rw (next_first now s (allocations s), found) refl
+
+pub refresh-due : (now : ℕ) (s : State) (found : Option Purpose) → found ≡ slice_get (filter_map (first_refresh now s) (allocations s)) 0 → found ≡ next_refresh now s
+refresh-due now s found is = is ∙ sym (next_first now s (allocations s))
 
 pub refresh-none : (now : ℕ) (s : State) → slice_get (filter_map (first_refresh now s) (allocations s)) 0 ≡ None → keepalive_step now s ≡ refresh_step now s
 refresh-none now s found = rw (next_first now s (allocations s), found) refl

@@ -1,6 +1,6 @@
 //! What is sent next (RFC 8489, section 6.2).
 
-ghost use Rattle.std.specs.Prelude.{◌≡◌, if◌then◌else◌, true, IfOk, IsSome, OnErr};
+ghost use Rattle.std.specs.Prelude.{◌≡◌, true, IfOk, IsSome, OnErr};
 ghost use Rattle.turn_client_core.specs.Outgoing.{with_room};
 ghost use Rattle.turn_client_core.specs.Sending.{begun_with, first_reply_step, front_step, resend_step};
 
@@ -33,21 +33,22 @@ impl Outbox {
         }
     }
 
-    /// Removes and returns the first queued packet, or within the pause the first reply, which does not
-    /// extend it: the pause applies to requests (our choice). If requests are timed from when they are
-    /// sent, the waits of one that is returned begin now.
-    pub(crate) fn take_queued(
+    /// Removes and returns the first reply, which does not extend the pause: that applies to requests (our choice).
+    pub(crate) fn take_reply(&mut self) -> Option<Transmit<Data>>
+        ensures { (result, with_room self.old.room self.new) ≡ first_reply_step self.old }
+    {
+        self.queue.take_reply()
+    }
+
+    /// Removes and returns the first queued packet. If requests are timed from when they are sent, the waits of one
+    /// that is returned begin now.
+    pub(crate) fn take_front(
         &mut self,
-        is_paused: bool,
         timed_from_send: bool,
         now: Instant,
     ) -> Option<Transmit<Data>>
-        ensures { (result, with_room self.old.room self.new)
-            ≡ (if is_paused then first_reply_step self.old else front_step timed_from_send now self.old) }
+        ensures { (result, with_room self.old.room self.new) ≡ front_step timed_from_send now self.old }
     {
-        if is_paused {
-            return self.queue.take_reply();
-        }
         let queued = self.queue.pop_front()?;
         if timed_from_send {
             self.begin_waits(&queued, now);

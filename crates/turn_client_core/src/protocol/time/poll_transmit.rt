@@ -1,12 +1,13 @@
 //! What a client sends next (RFC 8489, section 6.2; RFC 8656, sections 7 to 12).
 
 ghost use Rattle.std.specs.List.{list_any};
-ghost use Rattle.std.specs.Prelude.{◌≡◌, ◌≤◌, ◌^◌, ◌==◌, [], false, nat_le, IfOk, IsSome, OnErr, OnOk, Some};
+ghost use Rattle.std.specs.Prelude.{◌≡◌, ◌≤◌, ◌^◌, ◌==◌, false, nat_le, IfOk, None, IsSome, is_some, OnErr, OnOk, Some};
 ghost use Rattle.turn_agent.specs.Agent.{is_outstanding};
 ghost use Rattle.turn_client_api.specs.Due.{is_paused, keepalive_times};
 ghost use Rattle.turn_client_api.specs.Effect.{closed};
 ghost use Rattle.turn_client_api.specs.Requests.{fresh_id};
-ghost use Rattle.turn_client_api.specs.Transmit.{idle_step, keepalive_step, next_transmit, refresh_step, sent_at_once, transmit_step};
+ghost use Rattle.turn_client_api.specs.Transmit.{idle_step, keepalive_step, next_queued, next_refresh, next_transmit, queue_step, refresh_step, refreshes_first, sent_at_once};
+ghost use Rattle.turn_client_api.specs.Transmit.{transmit_step};
 ghost use Rattle.turn_client_core.specs.Sending.{waiting_step};
 ghost use Rattle.turn_client_core.specs.Wanted.{SendWantsMemory};
 
@@ -58,24 +59,54 @@ impl TurnClientProtocol {
         }
     }
 
-    /// If no retransmission is due: within the pause a reply alone, and else the first queued packet, or
-    /// the next request that the client has to make.
+    /// If no retransmission is due: within the pause only a reply, and else the next packet.
     fn send_waiting(&mut self, now: Instant) -> Result<Option<Transmit<Data>>, AllocError>
         ensures step { IfOk result (λ packet. (packet, self.new) ≡ waiting_step now self.old) }
         ensures err { OnErr result (self.new ≡ self.old) }
         ensures free { OnErr result (IsSome (waiting_step now self.old).0) }
         ensures running { OnErr result (is_paused now self.old ≡ false) }
-        ensures wanted { OnErr result (self.old.queue ≡ []) }
+        ensures wanted { OnErr result (next_queued now self.old ≡ None) }
     {
         let is_paused = self.is_paused(now);
+        if is_paused {
+            return Ok(self.outbox.take_reply());
+        }
+        self.send_next(now)
+    }
+
+    /// Outside the pause: a refresh that goes before what is queued, the first queued packet, or the next
+    /// request that the client has to make.
+    fn send_next(&mut self, now: Instant) -> Result<Option<Transmit<Data>>, AllocError>
+        ensures step { IfOk result (λ packet. (packet, self.new) ≡ queue_step now self.old) }
+        ensures err { OnErr result (self.new ≡ self.old) }
+        ensures free { OnErr result (IsSome (queue_step now self.old).0) }
+        ensures wanted { OnErr result (next_queued now self.old ≡ None) }
+    {
+        let refreshes_first = self.refreshes_first(now);
+        if refreshes_first {
+            return self.send_asked(now);
+        }
         let timed_from_send = self.config.requests_timed_from_send();
-        if let Some(packet) = self.outbox.take_queued(is_paused, timed_from_send, now) {
+        if let Some(packet) = self.outbox.take_front(timed_from_send, now) {
             return Ok(Some(packet));
         }
-        if is_paused {
-            return Ok(None);
-        }
         self.send_asked(now)
+    }
+
+    /// Whether a refresh is due that goes before what is queued: so it does if requests are timed from when they
+    /// are sent, since a burst of them may take longer than the grant lasts.
+    fn refreshes_first(&self, now: Instant) -> bool
+        ensures { result ≡ refreshes_first now self.now }
+    {
+        self.config.requests_timed_from_send() && self.is_allocated() && self.is_refresh_due(now)
+    }
+
+    /// Whether the time to refresh a grant has come.
+    fn is_refresh_due(&self, now: Instant) -> bool
+        ensures { result ≡ is_some (next_refresh now self.now) }
+    {
+        let early = self.config.refresh_ahead();
+        self.ledger.table().first_refresh(now, early).is_some()
     }
 
     /// The next request that the client has to make: a new client sends the first ALLOCATE, and one

@@ -1,5 +1,5 @@
-use Rattle.turn_client_laws.proofs.Common.{◌≡◌, ◌∙◌, [], ap, false, inl, inr, subst, IfOk, IsSome, OnErr}
-use Rattle.turn_client_laws.proofs.Machine.{is_paused, State}
+use Rattle.turn_client_laws.proofs.Common.{◌≡◌, ◌∙◌, None, ap, false, inl, inr, subst, IfOk, IsSome, OnErr}
+use Rattle.turn_client_laws.proofs.Machine.{is_paused, next_queued, State}
 use Rattle.turn_client_core.specs.Outgoing.{Outgoing}
 use Rattle.turn_client_core.specs.Sending.{waiting_step}
 use Rattle.turn_client_core.specs.Wanted.{SendWantsMemory}
@@ -53,6 +53,7 @@ returns-in-None-clause-wanted c =
     let same = resend-none c.args.now c.self.inside.outbox _ (rw c.in-None.is at c.in_ok-packet.ensures.step) in
     let running : OnErr r (is_paused c.args.now s ≡ false) =
     subst (λ (o : Outgoing). OnErr r (is_paused c.args.now (with_outbox o s) ≡ false)) same c.send_waiting.ensures.running in
-    let empty : OnErr r (s.queue ≡ []) = subst (λ (o : Outgoing). OnErr r (o.queue ≡ [])) same c.send_waiting.ensures.wanted in
-    let both : OnErr r (SendWantsMemory c.args.now s) = on-both r (λ p q. inr (p, q)) running empty in
+    let none : OnErr r (next_queued c.args.now s ≡ None) =
+    subst (λ (o : Outgoing). OnErr r (next_queued c.args.now (with_outbox o s) ≡ None)) same c.send_waiting.ensures.wanted in
+    let both : OnErr r (SendWantsMemory c.args.now s) = on-both r (λ p q. inr (p, q)) running none in
     rw (← c.self.view_is) both
