@@ -2,6 +2,8 @@
 
    Makes bad requests of every kind between the calls of an exchange. Each has to be answered by the named refusal, and
    to leave the client as it was: a second client, which gets the exchange alone, answers the same to the end. */
+#include "exchange.h"
+#include "hex.h"
 #include "yarrowdoor.h"
 #include <stdio.h>
 #include <stdlib.h>
@@ -322,27 +324,6 @@ static void bad_settings(const yarrowdoor_settings *good)
     }
     s.family = 0;
     no_client(&s, 0, 4, 0, YARROWDOOR_BAD_SETTINGS);
-}
-
-/* What a server sends to a client of `user` with `pass` and the zero seed (docs/rattle/LINES.md, An exchange). */
-static const char *const RECEIVED[] = {
-    "011300202112a44276b8e0ada0f13d90405d6ae50009000400000401001400057265616c6d000000001500056e6f6e6365000000",
-    "0103002c2112a4425386bd28bdd219b8a08ded1a001600080001bd522b12a446000d0004000003e80008001473ab3a7f1f80782b83e3ea333b"
-    "6d47"
-    "e608f296b7",
-    "010800182112a442a836efcc8b770dc7da41597c0008001424ee99d3ec7817ac7661800a0728cdc5de955997",
-    "001700182112a442000000000000000000000001001200080001023a2b12a4410013000568656c6c6f000000",
-};
-
-static size_t decode(const char *digits, uint8_t *bytes)
-{
-    size_t len = strlen(digits) / 2;
-    for (size_t i = 0; i < len; i++) {
-        unsigned byte;
-        sscanf(digits + 2 * i, "%2x", &byte);
-        bytes[i] = (uint8_t)byte;
-    }
-    return len;
 }
 
 /* Two clients that get the same calls, of which the first gets bad requests between them. */

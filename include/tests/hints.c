@@ -2,6 +2,7 @@
 
    Reads messages whose bytes RFC 5769 prints, and others made from them by hand, without a client: what the first frame
    says, and where an attribute lies. Whatever the bytes are, nothing is read behind them. */
+#include "hex.h"
 #include "yarrowdoor.h"
 #include <stdio.h>
 #include <stdlib.h>
@@ -15,17 +16,6 @@ static void check(const char *what, unsigned long found, unsigned long want)
         fprintf(stderr, "hints: %s: %lu, not %lu\n", what, found, want);
         exit(1);
     }
-}
-
-static size_t decode(const char *digits, uint8_t *bytes)
-{
-    size_t len = strlen(digits) / 2;
-    for (size_t i = 0; i < len; i++) {
-        unsigned byte;
-        sscanf(digits + 2 * i, "%2x", &byte);
-        bytes[i] = (uint8_t)byte;
-    }
-    return len;
 }
 
 /* RFC 5769, section 2.2: a response with XOR-MAPPED-ADDRESS 192.0.2.1 port 32853, and SOFTWARE "test vector". */

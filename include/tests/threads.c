@@ -3,21 +3,14 @@
    Several threads look at one client, each so many times. Then one of them makes calls of it, after the others have ended. What
    they see is what one thread sees. Under a checker of races it shows that a call that looks writes nothing that another reads,
    also in the library, which was compiled without the checker. */
+#include "exchange.h"
+#include "hex.h"
 #include "yarrowdoor.h"
 #include <pthread.h>
 #include <stdio.h>
 #include <stdlib.h>
 
 enum { THREADS = 4, BUFFER = 65556 };
-
-/* What a server sends to a client of `user` with `pass` and the zero seed (docs/rattle/LINES.md, An exchange): a challenge, and the
-   successes of ALLOCATE and CREATE_PERMISSION. */
-static const char *const RECEIVED[] = {
-    "011300202112a44276b8e0ada0f13d90405d6ae50009000400000401001400057265616c6d000000001500056e6f6e6365000000",
-    "0103002c2112a4425386bd28bdd219b8a08ded1a001600080001bd522b12a446000d0004000003e80008001473ab3a7f1f80782b83e3ea333b6d47"
-    "e608f296b7",
-    "010800182112a442a836efcc8b770dc7da41597c0008001424ee99d3ec7817ac7661800a0728cdc5de955997",
-};
 
 static yarrowdoor *client;
 static yarrowdoor_address local, server, relayed, peer;
@@ -35,13 +28,8 @@ static void check(const char *what, uint32_t found, uint32_t want)
 static void receive(size_t number, uint64_t now)
 {
     uint8_t bytes[256];
-    size_t len = strlen(RECEIVED[number]) / 2;
+    size_t len = decode(RECEIVED[number], bytes);
     yarrowdoor_answer answer;
-    for (size_t i = 0; i < len; i++) {
-        unsigned byte;
-        sscanf(RECEIVED[number] + 2 * i, "%2x", &byte);
-        bytes[i] = (uint8_t)byte;
-    }
     check("a response",
           yarrowdoor_recv(client, YARROWDOOR_UDP, &server, &local, bytes, len, now, buffer, BUFFER, &answer),
           YARROWDOOR_HANDLED);

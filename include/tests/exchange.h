@@ -1,0 +1,15 @@
+/* SPDX-License-Identifier: MIT OR Apache-2.0 */
+/* What a server sends to a client of `user` with `pass` and the zero seed (docs/rattle/LINES.md, An exchange). */
+#ifndef EXCHANGE_H
+#define EXCHANGE_H
+
+/* A challenge, the successes of ALLOCATE and CREATE_PERMISSION, and data of a peer. */
+static const char *const RECEIVED[] = {
+    "011300202112a44276b8e0ada0f13d90405d6ae50009000400000401001400057265616c6d000000001500056e6f6e6365000000",
+    "0103002c2112a4425386bd28bdd219b8a08ded1a001600080001bd522b12a446000d0004000003e80008001473ab3a7f1f80782b83e3ea333b6d47"
+    "e608f296b7",
+    "010800182112a442a836efcc8b770dc7da41597c0008001424ee99d3ec7817ac7661800a0728cdc5de955997",
+    "001700182112a442000000000000000000000001001200080001023a2b12a4410013000568656c6c6f000000",
+};
+
+#endif
