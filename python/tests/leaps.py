@@ -30,8 +30,10 @@ class LeapingSelector(selectors.DefaultSelector):
 
 
 class LeapingLoop(asyncio.SelectorEventLoop):
-    def __init__(self) -> None:
-        self._leaping = LeapingSelector()
+    """An event loop whose time is that of a selector."""
+
+    def __init__(self, leaping: Optional[LeapingSelector] = None) -> None:
+        self._leaping = leaping or LeapingSelector()
         super().__init__(self._leaping)
 
     def time(self) -> float:

@@ -8,6 +8,7 @@ from typing import Any, List
 from yarrowdoor import Address, Refused, TurnClient, address, client as sans_io
 from yarrowdoor.kept import MOST, Kept
 
+from .case import Case
 from .network import CLIENT, SECOND, Network, StreamEndpoint
 from .server import Server
 
@@ -114,11 +115,10 @@ class Data(unittest.TestCase):
             client.data_from(b"", -1)
 
 
-class AfterTheEnd(unittest.IsolatedAsyncioTestCase):
+class AfterTheEnd(Case):
     async def test_data_that_comes_late(self) -> None:
         """A stream may still bring some when its client has ended: it is dropped."""
-        endpoint = await StreamEndpoint.start(Server())
-        self.addCleanup(endpoint.close)
+        endpoint = await self.serve(kind=StreamEndpoint)
         taken: List[Any] = []
         relay = TurnClient(endpoint.uri, "user", "pass", receiver=lambda data, peer: taken.append(data))
         async with relay:

@@ -11,7 +11,7 @@ import yarrowdoor
 from yarrowdoor import AllocationFailed, Ended, PermissionFailed, Refused
 
 from . import coturn as coturn_server
-from .network import Endpoint
+from .case import Case
 from .server import Server
 
 PEER, OTHER = ("10.1.0.1", 9), ("10.1.0.2", 9)
@@ -39,13 +39,6 @@ class Echo(asyncio.DatagramProtocol):
 
     def connection_lost(self, exc: Optional[Exception]) -> None:
         self.lost.set_result(exc)
-
-
-class Case(unittest.IsolatedAsyncioTestCase):
-    async def serve(self, server: Server) -> Any:
-        endpoint = await Endpoint.start(server)
-        self.addCleanup(endpoint.close)
-        return endpoint
 
 
 class Datagrams(Case):

@@ -11,7 +11,7 @@ from yarrowdoor import Address, TurnClient
 from yarrowdoor.link import Link
 from yarrowdoor.servers import Server as Reached
 
-from .leaps import LeapingSelector, LoopClock, run
+from .leaps import LeapingLoop, LeapingSelector, LoopClock, run
 from .network import Endpoint
 from .server import CHANNEL_BIND, CREATE_PERMISSION, Server, Where
 from .test_hours import Watched
@@ -31,15 +31,6 @@ class JumpingSelector(LeapingSelector):
         if timeout:
             self.time += timeout + 1e-6
         return super(LeapingSelector, self).select(None if timeout is None else 0)
-
-
-class JumpingLoop(asyncio.SelectorEventLoop):
-    def __init__(self) -> None:
-        self._jumping = JumpingSelector()
-        super().__init__(self._jumping)
-
-    def time(self) -> float:
-        return self._jumping.time
 
 
 class Counting(Server):
@@ -103,7 +94,7 @@ class Near(Reached):
 
 class Day(unittest.TestCase):
     def test_peers_one_after_another(self) -> None:
-        loop = JumpingLoop()
+        loop = LeapingLoop(JumpingSelector())
         try:
             loop.run_until_complete(self.come_and_go())
         finally:

@@ -10,7 +10,7 @@ from typing import Any, List, Tuple
 
 from yarrowdoor import Clock, Counters, Ended, PermissionFailed, TurnClient
 
-from .network import Endpoint
+from .case import Case
 from .server import CREATE_PERMISSION, Server, Where, parse
 
 PEER, OTHER = ("10.1.0.1", 9), ("10.1.0.2", 9)
@@ -29,13 +29,6 @@ class Deaf(Server):
             if self.heard.count(self.heard[-1]) == 1:
                 return []
         return super().receive(data, source, now)
-
-
-class Case(unittest.IsolatedAsyncioTestCase):
-    async def serve(self, server: Server) -> Any:
-        endpoint = await Endpoint.start(server)
-        self.addCleanup(endpoint.close)
-        return endpoint
 
 
 class Log(Case):

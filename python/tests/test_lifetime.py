@@ -15,11 +15,12 @@ from typing import Any, List
 
 from yarrowdoor import AllocationFailed, Ended, Relay, TurnClient, WrongCredentials
 
+from .case import Case
 from .network import Endpoint, StreamEndpoint
 from .server import Server
 
 
-class Opening(unittest.IsolatedAsyncioTestCase):
+class Opening(Case):
     def setUp(self) -> None:
         """A busy machine may take longer for an answer than the two seconds that a client waits for it."""
         session = sys.modules.get("yarrowdoor.session")
@@ -28,13 +29,11 @@ class Opening(unittest.IsolatedAsyncioTestCase):
             patient.start()
             self.addCleanup(patient.stop)
 
-    async def serve(self, delay: float = 0.0, **settings: Any) -> Any:
+    async def serve_after(self, delay: float) -> Any:
         """A server whose answers take their time."""
-        endpoint: Any = await Endpoint.start(Server(**settings))
-        self.addCleanup(endpoint.close)
+        endpoint = await self.serve()
         send = endpoint.send
-        if delay:
-            endpoint.send = lambda *it: asyncio.get_running_loop().call_later(delay, send, *it)
+        endpoint.send = lambda *it: asyncio.get_running_loop().call_later(delay, send, *it)
         return endpoint
 
     async def wait_for_allocation(self, endpoint: Any) -> None:
@@ -42,7 +41,7 @@ class Opening(unittest.IsolatedAsyncioTestCase):
             await asyncio.sleep(0.005)
 
     async def test_opening_that_is_cancelled_gives_its_allocation_back(self) -> None:
-        endpoint = await self.serve(delay=0.2)
+        endpoint = await self.serve_after(0.2)
         relay = TurnClient(endpoint.uri, "user", "pass")
         opening = asyncio.ensure_future(relay.open())
         await self.wait_for_allocation(endpoint)  # granted, and its success is under way
@@ -55,7 +54,7 @@ class Opening(unittest.IsolatedAsyncioTestCase):
 
     async def test_calls_while_it_is_closed(self) -> None:
         """Each says that the client was closed, also before the server has answered."""
-        endpoint = await self.serve(delay=0.2)
+        endpoint = await self.serve_after(0.2)
         relay, peer = TurnClient(endpoint.uri, "user", "pass"), ("10.1.0.1", 9)
         await relay.open()
         await relay.permit(peer[0])
@@ -91,7 +90,7 @@ class Opening(unittest.IsolatedAsyncioTestCase):
 
     async def test_requests_that_wait_while_it_is_closed(self) -> None:
         """Those that were not made yet end with the client, too, and are not refused."""
-        endpoint = await self.serve(delay=0.2)
+        endpoint = await self.serve_after(0.2)
         relay = TurnClient(endpoint.uri, "user", "pass")
         await relay.open()
         asking = [asyncio.ensure_future(relay.permit(f"10.1.0.{number}")) for number in range(1, 31)]
@@ -114,7 +113,7 @@ class Opening(unittest.IsolatedAsyncioTestCase):
         self.assertEqual(endpoint.server.allocations, {})
 
     async def test_closing_while_it_opens(self) -> None:
-        endpoint = await self.serve(delay=0.2)
+        endpoint = await self.serve_after(0.2)
         relay = TurnClient(endpoint.uri, "user", "pass")
         opening = asyncio.ensure_future(relay.open())
         await self.wait_for_allocation(endpoint)
@@ -194,7 +193,7 @@ class Opening(unittest.IsolatedAsyncioTestCase):
 
     async def test_a_refusal_that_nobody_signed_and_a_grant_that_comes_late(self) -> None:
         """The grant is given back when it comes, though opening has failed before."""
-        endpoint = await self.serve(delay=1.5)
+        endpoint = await self.serve_after(1.5)
         relay = TurnClient(endpoint.uri, "user", "pass")
         receive, answered = endpoint.server.receive, []  # type: Any, List[bytes]
 
@@ -220,7 +219,7 @@ class Opening(unittest.IsolatedAsyncioTestCase):
         self.assertEqual(endpoint.server.allocations, {})
 
     async def test_waiting_while_it_opens(self) -> None:
-        endpoint = await self.serve(delay=0.1)
+        endpoint = await self.serve_after(0.1)
         relay = TurnClient(endpoint.uri, "user", "pass")
         opening = asyncio.ensure_future(relay.open())
         await asyncio.sleep(0.01)
@@ -246,7 +245,7 @@ class Arguments(unittest.IsolatedAsyncioTestCase):
                 TurnClient("turn:127.0.0.1", "user", "pass", **wrong)
 
 
-class Aborted(unittest.IsolatedAsyncioTestCase):
+class Aborted(Case):
     """Nothing is waited for, and the relayed address is deleted all the same."""
 
     async def given_back(self, endpoint: Any) -> None:
@@ -282,8 +281,7 @@ class Aborted(unittest.IsolatedAsyncioTestCase):
                 endpoint.close()
 
     async def test_while_it_opens(self) -> None:
-        endpoint: Any = await Endpoint.start(Server())
-        self.addCleanup(endpoint.close)
+        endpoint = await self.serve()
         send = endpoint.send
         endpoint.send = lambda *it: asyncio.get_running_loop().call_later(0.1, send, *it)
         kinds: List[Any] = [TurnClient, Relay]
@@ -302,8 +300,7 @@ class Aborted(unittest.IsolatedAsyncioTestCase):
             await self.given_back(endpoint)
 
     async def test_a_silent_server(self) -> None:
-        endpoint = await Endpoint.start(Server())
-        self.addCleanup(endpoint.close)
+        endpoint = await self.serve()
         relay = TurnClient(endpoint.uri, "user", "pass")
         await relay.open()
         local = relay.local_address
@@ -313,11 +310,10 @@ class Aborted(unittest.IsolatedAsyncioTestCase):
             again.bind(local)  # which the client has closed
 
 
-class Abandoned(unittest.IsolatedAsyncioTestCase):
+class Abandoned(Case):
     async def test_a_client_that_nobody_closes(self) -> None:
         """It is collected, which is told, and its relayed address is given back."""
-        endpoint = await Endpoint.start(Server())
-        self.addCleanup(endpoint.close)
+        endpoint = await self.serve()
         relay = TurnClient(endpoint.uri, "user", "pass")
         await relay.open()
         await relay.permit("10.1.0.1")

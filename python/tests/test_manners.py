@@ -17,13 +17,13 @@ from yarrowdoor import (
 from yarrowdoor.path import Check
 
 from .server import Server
-from .test_relay import Case, Restarting
+from .test_relay import RelayCase, Restarting
 
 KINDS: List[Any] = [TurnClient, Relay]
 SECRET = "hunter2"
 
 
-class Manners(Case):
+class Manners(RelayCase):
     async def test_copies(self) -> None:
         """A copy that is collected would close the original."""
         endpoint = await self.serve(Server())

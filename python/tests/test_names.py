@@ -12,8 +12,8 @@ from yarrowdoor import AllocationFailed, Times, TurnClient
 from yarrowdoor.servers import connected
 from yarrowdoor.uri import TurnUri
 
+from .case import Case
 from .network import SECOND, Endpoint, StreamEndpoint
-from .server import Server
 
 SHORT = Times(initial=100_000_000, longest=SECOND, last=300_000_000, count=3)  # 0.1 + 0.2 + 0.3 s
 PEER = ("10.1.0.1", 9)
@@ -36,12 +36,7 @@ def port_of(uri: str) -> int:
     return int(uri.split(":")[2].partition("?")[0])
 
 
-class Names(unittest.IsolatedAsyncioTestCase):
-    async def serve(self) -> Any:
-        endpoint = await Endpoint.start(Server())
-        self.addCleanup(endpoint.close)
-        return endpoint
-
+class Names(Case):
     def hole(self, host: str, port: int) -> None:
         """An address that takes packets and says nothing."""
         taken = socket.socket(socket.AF_INET, socket.SOCK_DGRAM)
@@ -115,8 +110,7 @@ class Names(unittest.IsolatedAsyncioTestCase):
         self.assertTrue(relay.closed)
 
     async def test_a_first_address_that_is_silent_over_tcp(self) -> None:
-        endpoint = await StreamEndpoint.start(Server())
-        self.addCleanup(endpoint.close)
+        endpoint = await self.serve(kind=StreamEndpoint)
         connect = asyncio.get_running_loop().sock_connect
 
         async def connect_or_hang(sock: Any, where: Any) -> None:
@@ -180,7 +174,7 @@ class Names(unittest.IsolatedAsyncioTestCase):
         self.assertTrue(all(it.fileno() < 0 for it in opened))
 
 
-class Sockets(unittest.IsolatedAsyncioTestCase):
+class Sockets(Case):
     """A socket that is given."""
 
     def connected(self, uri: str) -> socket.socket:
@@ -194,8 +188,7 @@ class Sockets(unittest.IsolatedAsyncioTestCase):
         """The name is not looked up, and the socket is closed with the client."""
         kinds: List[Any] = [Endpoint, StreamEndpoint]
         for kind, form in zip(kinds, ("turn:nowhere.invalid:{}", "turn:nowhere.invalid:{}?transport=tcp")):
-            endpoint = await kind.start(Server())
-            self.addCleanup(endpoint.close)
+            endpoint = await self.serve(kind=kind)
             sock = self.connected(endpoint.uri)
             name = sock.getsockname()
             async with TurnClient(form.format(port_of(endpoint.uri)), "user", "pass", sock=sock) as relay:
@@ -208,8 +201,7 @@ class Sockets(unittest.IsolatedAsyncioTestCase):
 
     async def test_a_socket_that_is_not_used(self) -> None:
         """One over the other transport, of another family or that is not connected is refused, and left alone."""
-        endpoint = await Endpoint.start(Server())
-        self.addCleanup(endpoint.close)
+        endpoint = await self.serve()
         udp, local = self.connected(endpoint.uri), socket.socketpair(socket.AF_UNIX, socket.SOCK_DGRAM)
         loose = socket.socket(type=socket.SOCK_DGRAM)
         for it in (*local, loose):

@@ -10,18 +10,14 @@ from typing import Any, List
 from yarrowdoor import AllocationFailed, Clock, Ended, Refused, Times, TurnClient, WrongCredentials
 from yarrowdoor.servers import Server
 
-from .network import SECOND, Endpoint, StreamEndpoint
+from .case import Case
+from .network import SECOND, StreamEndpoint
 from .server import Server as TestServer
 from .turn_servers import fast
 
 
-class Opening(unittest.IsolatedAsyncioTestCase):
+class Opening(Case):
     """A server that answers, refuses, or is silent."""
-
-    async def serve(self, **settings: Any) -> Any:
-        endpoint = await Endpoint.start(TestServer(**settings))
-        self.addCleanup(endpoint.close)
-        return endpoint
 
     def check_waited(self, failed: AllocationFailed, seconds: float) -> None:
         """The wait that the error tells is that of the request, or longer on a machine that is busy."""
@@ -93,8 +89,7 @@ class Opening(unittest.IsolatedAsyncioTestCase):
             await asyncio.wait_for(relay.wait_closed(), 1)
 
     async def test_a_connection_that_is_reset_at_once(self) -> None:
-        endpoint = await StreamEndpoint.start(TestServer())
-        self.addCleanup(endpoint.close)
+        endpoint = await self.serve(kind=StreamEndpoint)
         with unittest.mock.patch.object(socket.socket, "getpeername", side_effect=OSError(107, "not connected")):
             with self.assertRaises(AllocationFailed):
                 await asyncio.wait_for(TurnClient(endpoint.uri, "user", "pass").open(), 5)
@@ -124,8 +119,7 @@ class Opening(unittest.IsolatedAsyncioTestCase):
         """A request is sent once, and fails as late as over UDP."""
         server = TestServer()
         server.is_dead = True
-        endpoint = await StreamEndpoint.start(server)
-        self.addCleanup(endpoint.close)
+        endpoint = await self.serve(server, StreamEndpoint)
         times = Times(initial=100_000_000, longest=SECOND, last=200_000_000, count=3)
         with self.assertRaisesRegex(AllocationFailed, r"^no answer from turn:.*\?transport=tcp in \d\.\d s$") as failed:
             await TurnClient(endpoint.uri, "user", "pass", times=times).open()
@@ -156,13 +150,8 @@ class Opening(unittest.IsolatedAsyncioTestCase):
         self.assertTrue(relay.closed)
 
 
-class Ending(unittest.IsolatedAsyncioTestCase):
+class Ending(Case):
     """A server that goes, and calls that come too early or too late."""
-
-    async def serve(self, **settings: Any) -> Any:
-        endpoint = await Endpoint.start(TestServer(**settings))
-        self.addCleanup(endpoint.close)
-        return endpoint
 
     async def test_a_server_that_dies(self) -> None:
         endpoint = await self.serve()
@@ -212,8 +201,7 @@ class Ending(unittest.IsolatedAsyncioTestCase):
 
     async def test_a_connection_that_ends(self) -> None:
         for resets in (False, True):
-            endpoint = await StreamEndpoint.start(TestServer())
-            self.addCleanup(endpoint.close)
+            endpoint = await self.serve(kind=StreamEndpoint)
             async with TurnClient(endpoint.uri, "user", "pass") as relay:
                 endpoint.end(resets)
                 with self.assertRaisesRegex(Ended, "^the connection to the server has ended: .*(closed|reset)") as ended:

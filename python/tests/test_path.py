@@ -16,23 +16,19 @@ from yarrowdoor import Clock, Ended, TurnClient
 from yarrowdoor.link import StreamLink
 
 from . import coturn as coturn_server, leaps
+from .case import Case
 from .network import SECOND, Endpoint, StreamEndpoint
 from .server import Server
 
 PEER = ("10.1.0.1", 9000)
 
 
-class Checks(unittest.IsolatedAsyncioTestCase):
+class Checks(Case):
     """`check`, and `probe=`, which does it by itself."""
-
-    async def serve(self, kind: Any = Endpoint, **settings: Any) -> Any:
-        endpoint = await kind.start(Server(**settings))
-        self.addCleanup(endpoint.close)
-        return endpoint
 
     async def test_a_check(self) -> None:
         for kind in (Endpoint, StreamEndpoint):
-            endpoint = await self.serve(kind)
+            endpoint = await self.serve(kind=kind)
             clock: Any = Clock()
             async with TurnClient(endpoint.uri, "user", "pass", clock=clock) as relay:
                 self.assertEqual(await relay.check(), (True, relay.local_address))
@@ -135,13 +131,12 @@ class Checks(unittest.IsolatedAsyncioTestCase):
                     self.assertEqual(checked, (is_answered, relay.local_address if is_answered else None))
 
 
-class Sockets(unittest.IsolatedAsyncioTestCase):
+class Sockets(Case):
     """Errors of a socket, and its end."""
 
     async def test_a_socket_that_is_closed_by_another(self) -> None:
         """A socket that was given, and that its owner closes, is told with the system's error."""
-        endpoint = await Endpoint.start(Server())
-        self.addCleanup(endpoint.close)
+        endpoint = await self.serve()
         with socket.socket(type=socket.SOCK_DGRAM) as sock:
             sock.connect(endpoint.transport.get_extra_info("sockname"))
             relay = TurnClient(endpoint.uri, "user", "pass", sock=sock, clock=Clock(rate=10))
@@ -194,8 +189,7 @@ class Sockets(unittest.IsolatedAsyncioTestCase):
 
     async def test_a_server_over_tcp_that_answers_no_refresh(self) -> None:
         """TCP repeats what is lost, so that is the end, and not only a lost permission."""
-        endpoint = await StreamEndpoint.start(Server(lifetime=3600))
-        self.addCleanup(endpoint.close)
+        endpoint = await self.serve(Server(lifetime=3600), StreamEndpoint)
         clock = Clock(rate=60)
         async with TurnClient(endpoint.uri, "user", "pass", clock=clock) as relay:
             await relay.permit(PEER[0])
@@ -206,8 +200,7 @@ class Sockets(unittest.IsolatedAsyncioTestCase):
 
     async def test_a_route_that_goes_over_tcp(self) -> None:
         """The system has to say so three times. Where it had none from the beginning, nothing is concluded."""
-        endpoint = await StreamEndpoint.start(Server())
-        self.addCleanup(endpoint.close)
+        endpoint = await self.serve(kind=StreamEndpoint)
         gone = OSError(101, "Network is unreachable")
         cases: List[Tuple[List[Optional[OSError]], bool]] = [
             ([None, None, gone, gone, None, gone, gone, gone], True), ([None, gone, gone, None, gone, gone, None], False),
@@ -226,8 +219,7 @@ class Sockets(unittest.IsolatedAsyncioTestCase):
 
     async def test_options_of_a_connection(self) -> None:
         """The system gives up on a silent one after 25 s."""
-        endpoint = await StreamEndpoint.start(Server())
-        self.addCleanup(endpoint.close)
+        endpoint = await self.serve(kind=StreamEndpoint)
         async with TurnClient(endpoint.uri, "user", "pass") as relay:
             link = cast(StreamLink, relay._session().link)
             with socket.socket(fileno=os.dup(link.transport.get_extra_info("socket").fileno())) as own:

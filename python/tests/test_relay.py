@@ -7,7 +7,8 @@ from typing import Any, Callable, Dict, List, Optional, Tuple
 
 from yarrowdoor import Address, Backoff, Clock, Down, Ended, Lost, PermissionFailed, Refused, Relay, Times, Up, tries, vigil
 
-from .network import Endpoint, StreamEndpoint
+from .case import Case
+from .network import StreamEndpoint
 from .server import CHANNEL_BIND, CREATE_PERMISSION, Server, Where, attribute, parse, unxored, xored
 from .turn_servers import fast
 
@@ -49,12 +50,7 @@ class Restarting(Server):
         return self.success(message, body + attribute(0x000D, (600).to_bytes(4, "big")))
 
 
-class Case(unittest.IsolatedAsyncioTestCase):
-    async def serve(self, server: Server, kind: Any = Endpoint) -> Any:
-        endpoint = await kind.start(server)
-        self.addCleanup(endpoint.close)
-        return endpoint
-
+class RelayCase(Case):
     def relay(self, endpoint: Any, *credentials: Any, **settings: Any) -> Tuple[Relay, List[Any]]:
         """A relay that is quick, and its states."""
         states: List[Any] = []
@@ -76,7 +72,7 @@ class Case(unittest.IsolatedAsyncioTestCase):
         self.assertEqual(await asyncio.wait_for(relay.receive(), 30), (b"x", peer))
 
 
-class Returns(Case):
+class Returns(RelayCase):
     def refuse(self, relay: Relay) -> None:
         """The socket tells that the server's port is closed."""
         client: Any = relay._revival.client

@@ -13,10 +13,10 @@ from yarrowdoor.tries import Failures
 
 from .network import StreamEndpoint
 from .server import CREATE_PERMISSION, Where, parse
-from .test_relay import OTHER, PEER, SHORT, Case, Restarting
+from .test_relay import OTHER, PEER, SHORT, RelayCase, Restarting
 
 
-class Credentials(Case):
+class Credentials(RelayCase):
     """Nobody has to have signed the packet that says that credentials are wrong."""
 
     async def test_one_forged_packet_ends_nothing(self) -> None:
@@ -126,7 +126,7 @@ class Credentials(Case):
             await self.echo(relay)
 
 
-class Ends(Case):
+class Ends(RelayCase):
     async def test_codes(self) -> None:
         for code, asks in ((403, 1), (440, 1), (442, 1), (486, 3)):
             with self.subTest(code=code):

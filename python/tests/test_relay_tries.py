@@ -17,7 +17,7 @@ from .coturn import make_certificate
 from .leaps import LoopClock, run
 from .network import Endpoint, StreamEndpoint
 from .server import ALLOCATE, Server, Where
-from .test_relay import PEER, Case, Restarting
+from .test_relay import PEER, RelayCase, Restarting
 from .turn_servers import fast
 
 
@@ -169,7 +169,7 @@ class Tries(unittest.TestCase):
         return took
 
 
-class Places(Case):
+class Places(RelayCase):
     async def test_a_port_of_ones_own(self) -> None:
         """The server still knows the allocation of that port, which is lost: the next one is from another port."""
         endpoint = await self.serve(Server())
@@ -243,7 +243,7 @@ class Places(Case):
                 relay.local_address
 
 
-class Asked(Case):
+class Asked(RelayCase):
     async def test_closing_just_when_credentials_come(self) -> None:
         """The cancellation is not lost, as by `asyncio.wait_for` up to Python 3.11."""
         endpoint = await self.serve(Restarting())

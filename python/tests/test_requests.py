@@ -6,6 +6,7 @@ from typing import Any, List, Tuple
 
 from yarrowdoor import Clock, Ended, PermissionFailed, Times, TurnClient
 
+from .case import Case
 from .leaps import LoopClock, run
 from .network import SECOND, Endpoint
 from .server import CREATE_PERMISSION, Message, Server, Where, parse, unxored
@@ -35,12 +36,7 @@ def later_by(stood: int, more: int) -> int:
     return stood + more
 
 
-class Requests(unittest.IsolatedAsyncioTestCase):
-    async def serve(self, server: Server) -> Any:
-        endpoint = await Endpoint.start(server)
-        self.addCleanup(endpoint.close)
-        return endpoint
-
+class Requests(Case):
     async def test_a_request_without_an_answer_has_no_code_of_another_one(self) -> None:
         endpoint = await self.serve(Server(denied=("10.1.0.2",)))
         async with TurnClient(endpoint.uri, "user", "pass", times=SHORT) as relay:

@@ -12,7 +12,7 @@ from yarrowdoor.room import Room
 
 from .network import CLIENT, SECOND, Network
 from .server import REFRESH, Server, parse
-from .test_relay import Case
+from .test_relay import RelayCase
 
 HAS_THEM = library.load().has_room
 WHY = "the library is older than these calls"
@@ -70,7 +70,7 @@ class Grants(unittest.TestCase):
 
 
 @unittest.skipUnless(HAS_THEM, WHY)
-class Warned(Case):
+class Warned(RelayCase):
     async def test_a_client_with_more_than_it_renews(self) -> None:
         endpoint = await self.serve(Server())
         async with TurnClient(endpoint.uri, "user", "pass", pause=0.2, refresh_ahead=2.0) as relay:

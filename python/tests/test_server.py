@@ -6,18 +6,13 @@ from typing import Any, List
 
 from yarrowdoor import ChannelFailed, Ended, PermissionFailed, Refused, TurnClient
 
-from .network import Endpoint, StreamEndpoint
-from .server import Server as TestServer
+from .case import Case
+from .network import StreamEndpoint
 from .turn_servers import fast
 
 
-class ThroughASocket(unittest.IsolatedAsyncioTestCase):
+class ThroughASocket(Case):
     """`TurnClient` and a server on a socket of this host."""
-
-    async def serve(self, **settings: Any) -> Any:
-        endpoint = await Endpoint.start(TestServer(**settings))
-        self.addCleanup(endpoint.close)
-        return endpoint
 
     async def test_an_echo(self) -> None:
         endpoint = await self.serve()
@@ -125,8 +120,7 @@ class ThroughASocket(unittest.IsolatedAsyncioTestCase):
             self.assertEqual(len(relay._inbox._takers), 0)
 
     async def test_sending_to_a_server_that_stopped_reading(self) -> None:
-        endpoint = await StreamEndpoint.start(TestServer())
-        self.addCleanup(endpoint.close)
+        endpoint = await self.serve(kind=StreamEndpoint)
         relay = TurnClient(endpoint.uri, "user", "pass")
         await relay.open()
         await relay.permit("10.1.0.1")

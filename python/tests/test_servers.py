@@ -18,18 +18,11 @@ from yarrowdoor.servers import Server as Reached
 from yarrowdoor.uri import parse
 
 from . import coturn as coturn_server
-from .network import Endpoint
+from .case import Case
 from .server import Server, Where, attribute, xored
 
 PEER = ("10.1.0.1", 9)
 BOTH = ("user", "pass")
-
-
-class Case(unittest.IsolatedAsyncioTestCase):
-    async def serve(self, server: Server) -> Any:
-        endpoint = await Endpoint.start(server)
-        self.addCleanup(endpoint.close)
-        return endpoint
 
 
 class Who(Case):

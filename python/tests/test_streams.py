@@ -15,6 +15,7 @@ from yarrowdoor.aioice import create_turn_endpoint
 from yarrowdoor.link import SLICE
 
 from . import coturn as coturn_server
+from .case import Case
 from .network import Endpoint, StreamEndpoint
 from .server import Server
 
@@ -23,17 +24,12 @@ FRAME = struct.pack("!HH", 0x4000, 4) + b"data"
 ODD_FRAME = struct.pack("!HH", 0x4000, 1) + b"x\0\0\0"
 
 
-class ToTheServer(unittest.IsolatedAsyncioTestCase):
-    async def serve(self, **settings: Any) -> StreamEndpoint:
-        endpoint = await StreamEndpoint.start(Server(**settings))
-        self.addCleanup(endpoint.close)
-        return endpoint
-
+class ToTheServer(Case):
     async def test_frames_wherever_they_are_cut(self) -> None:
         """What an error response says is read after any piece that ends in the middle of a frame."""
         for frame, data in ((FRAME, b"data"), (ODD_FRAME, b"x")):
             for cut in range(len(frame)):
-                endpoint = await self.serve(denied=("10.1.0.2",))
+                endpoint = await self.serve(kind=StreamEndpoint, denied=("10.1.0.2",))
                 async with TurnClient(endpoint.uri, "user", "pass") as relay:
                     await relay.bind(PEER)
                     endpoint.writer.get_extra_info("socket").setsockopt(socket.IPPROTO_TCP, socket.TCP_NODELAY, 1)
@@ -47,7 +43,7 @@ class ToTheServer(unittest.IsolatedAsyncioTestCase):
 
     async def test_a_flood_of_empty_messages(self) -> None:
         """One piece of the stream may have 65,536 of them, and other tasks go on meanwhile."""
-        endpoint, count, came = await self.serve(), 65_536, [0]
+        endpoint, count, came = await self.serve(kind=StreamEndpoint), 65_536, [0]
 
         def receive(data: bytes, peer: Any) -> None:
             came[0] += 1
@@ -68,8 +64,7 @@ class ToTheServer(unittest.IsolatedAsyncioTestCase):
         asyncio.get_running_loop().set_exception_handler(lambda loop, context: told.append(context))
         kinds: List[Any] = [Endpoint, StreamEndpoint]
         for kind in kinds:
-            endpoint = await kind.start(Server())
-            self.addCleanup(endpoint.close)
+            endpoint = await self.serve(kind=kind)
             came: List[bytes] = []
 
             def receive(data: bytes, peer: Any, came: List[bytes] = came) -> None:
@@ -108,12 +103,11 @@ class Told(asyncio.DatagramProtocol):
         self.told.append(type(exc))
 
 
-class Transports(unittest.IsolatedAsyncioTestCase):
+class Transports(Case):
     """What the protocol of a `RelayTransport` is told."""
 
     async def test_a_socket_that_is_full(self) -> None:
-        endpoint = await StreamEndpoint.start(Server())
-        self.addCleanup(endpoint.close)
+        endpoint = await self.serve(kind=StreamEndpoint)
         host, port = endpoint.where
         transport, protocol = await create_turn_endpoint(Told, (host, port), "user", "pass", transport="tcp")
         transport.sendto(b"x", PEER)
