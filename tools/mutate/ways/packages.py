@@ -69,14 +69,19 @@ class Rust(OneByOne):
         return verdict(began and found.status == 0, began and found.status != 0, test if began else "it does not compile")
 
 
+def has_method(folder: pathlib.Path, name: str) -> bool:
+    """Whether the folder has this test of unittest: `MODULE.CLASS.TEST`."""
+    found = re.fullmatch(r"(\w+)\.(\w+)\.(\w+)", name)
+    file = folder / f"{found[1]}.py" if found else folder
+    pattern = rf"(?s)\nclass {found[2]}\(.*\n    (async )?def {found[3]}\(self\)" if found else ""
+    return file.is_file() and re.search(pattern, file.read_text(encoding="utf-8")) is not None
+
+
 class Python(OneByOne):
     """Tests of the package for Python: `tests.MODULE.CLASS.TEST`."""
 
     def named(self, edit: Edit) -> List[str]:
-        found = re.fullmatch(r"tests\.(\w+)\.(\w+)\.(\w+)", edit.seen)
-        file = TOP / "python/tests" / f"{found[1]}.py" if found else TOP
-        pattern = rf"(?s)\nclass {found[2]}\(.*\n    (async )?def {found[3]}\(self\)" if found else ""
-        check_there(file.is_file() and re.search(pattern, file.read_text(encoding="utf-8")) is not None, edit)
+        check_there(edit.seen.startswith("tests.") and has_method(TOP / "python/tests", edit.seen[len("tests."):]), edit)
         return [edit.seen]
 
     def run(self, room: pathlib.Path, test: str, edit: Optional[Edit]) -> Result:
@@ -134,10 +139,7 @@ class Page(OneByOne):
     """Tests of the page, as tools/check/test-web takes them. One fails by an assertion."""
 
     def named(self, edit: Edit) -> List[str]:
-        found = re.fullmatch(r"(\w+)\.(\w+)\.(\w+)", edit.seen)
-        file = TOP / "web/test" / f"{found[1]}.py" if found else TOP
-        pattern = rf"(?s)\nclass {found[2]}\(.*\n    def {found[3]}\(self\)" if found else ""
-        check_there(file.is_file() and re.search(pattern, file.read_text(encoding="utf-8")) is not None, edit)
+        check_there(has_method(TOP / "web/test", edit.seen), edit)
         return [edit.seen]
 
     def run(self, room: pathlib.Path, test: str, edit: Optional[Edit]) -> Result:
