@@ -10,7 +10,7 @@ from typing import Dict, Iterator, List, NamedTuple, Tuple
 from programs import HERE, OUT
 
 sys.path.insert(0, str(HERE.parents[1] / "python"))
-from tests.coturn import coturn  # noqa: E402
+from tests.coturn import coturn  # noqa: E402 (in the folder that the line before names)
 
 UCLIENT = "turnutils_uclient"
 # How many echoes each awaits: fewer where a timer paces them.

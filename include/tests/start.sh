@@ -23,7 +23,7 @@ check_starts() {
     run=("$@")
     # shellcheck disable=SC2054,SC2206 # $warnings is several words, and the linker takes commas
     local words=(-std=c99 -O1 $warnings -I "$from" -I "$tests/start") paths=(-L "$to" -Wl,-rpath,"$to" -L "$from" -Wl,-rpath,"$from")
-    # shellcheck disable=SC2054
+    # shellcheck disable=SC2054 # the linker takes commas
     local all=(-Wl,--no-as-needed)
     mkdir -p "$to"
     "$cc" "${words[@]}" -fPIC -shared "$tests/start/user.c" "${paths[@]}" -lyarrowdoor -o "$to/libuser.so"

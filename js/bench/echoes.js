@@ -59,8 +59,9 @@ async function openBare(library) {
     const sockets = [], createSocket = dgram.createSocket;
     dgram.createSocket = (...words) => sockets[sockets.push(createSocket(...words)) - 1];
     const relay = await open(library);
+    // Nothing else opens a relay meanwhile.
     // eslint-disable-next-line require-atomic-updates
-    dgram.createSocket = createSocket; // nothing else opens a relay meanwhile
+    dgram.createSocket = createSocket;
     sockets[0].removeAllListeners("message");
     return { relay, socket: sockets[0] };
 }
