@@ -325,7 +325,7 @@ typedef struct yarrowdoor_load {
    YARROWDOOR_OUT_OF_MEMORY. The client sends nothing until it is polled.
 
    User name and password are bytes; typed text has to be prepared before (RFC 8489, section 14.3). Transaction IDs
-   are drawn from the seed: 32 bytes that nobody else knows, new for each client. A getrandom(2) gives them. */
+   are made from the seed: 32 secret bytes, new for each client. A getrandom(2) gives them. */
 uint32_t yarrowdoor_new(const yarrowdoor_settings *settings, const uint8_t *user, size_t user_len,
                         const uint8_t *password, size_t password_len, const uint8_t *seed, size_t seed_len,
                         yarrowdoor **place);

@@ -1,7 +1,7 @@
 /* usage: echo SERVER PORT USER PASSWORD PEER PORT TEXT
 
    Sends a text to a peer through a TURN server over UDP, prints what the peer sends back, deletes the allocation and
-   ends. It is the whole caller of the library: a socket, a clock, and poll(2). examples/c/README.md says how to run it. */
+   ends. It is the whole caller of the library: a socket, a clock, and poll(2). docs/start/C.md says how to run it. */
 #define _DEFAULT_SOURCE
 #include <errno.h>
 #include <netdb.h>

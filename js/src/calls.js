@@ -270,7 +270,7 @@ function makeRequests(module, block) {
 }
 
 /**
- * An IP address alone, as the library takes it. TypeError if it is none.
+ * An IP address without a port, as the library takes it. TypeError if it is none.
  * @param {string} ip
  */
 export function hostOf(ip) {

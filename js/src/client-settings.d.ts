@@ -54,6 +54,6 @@ export interface Settings {
      * false it does so from when it is made, also while it is queued.
      */
     readonly timedFromSend?: boolean;
-    /** The 32 bytes that transaction IDs are made from, which nobody else knows. By default random ones. */
+    /** The 32 bytes that transaction IDs are made from, which must be secret. By default random ones. */
     readonly seed?: Uint8Array;
 }

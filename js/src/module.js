@@ -141,7 +141,7 @@ export class Module {
     }
 
     /**
-     * Bytes, copied to the front of a buffer that all calls share: for the next call alone.
+     * Bytes, copied to the front of a buffer that all calls share: only for the next call.
      * @param {Uint8Array} data
      */
     inputOf(data) {

@@ -12,7 +12,7 @@ export function useRandom(crypto) {
 }
 
 /**
- * Bytes that nobody else knows. TypeError in an engine that has none.
+ * Secret random bytes. TypeError in an engine that has none.
  * @param {number} len
  */
 export function randomBytes(len) {

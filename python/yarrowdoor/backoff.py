@@ -17,7 +17,7 @@ class Backoff:
     longest: float = 4.0
     """the longest wait"""
     jitter: float = 0.5
-    """the part of each wait that is drawn by lot, from 0 to 1: with 0.5 it is half of the wait to all of it, so that many clients
+    """the random part of each wait, from 0 to 1: with 0.5 it is half of the wait to all of it, so that many clients
     of a server that was restarted do not come back at one time"""
 
     def __post_init__(self) -> None:

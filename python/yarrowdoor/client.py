@@ -80,7 +80,7 @@ class Client:
     :param refresh_ahead: how long before its expiry a permission or channel is refreshed, in nanoseconds, at least a second.
     :param timed_from_send: whether a request waits for its response from when its first packet is taken (RFC 8489, section 6.2.1).
         With False it does so from when it is made, also while it is queued.
-    :param seed: the 32 bytes that transaction IDs are made from, which nobody else knows. None: the system's random numbers.
+    :param seed: the 32 bytes that transaction IDs are made from, which must be secret. None: the system's random numbers.
     :param library: the library to use, by default the one that all share.
     """
 

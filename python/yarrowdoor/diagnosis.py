@@ -1,4 +1,4 @@
-"""Why a client has ended, or has no relayed address: what was heard of the server, in words."""
+"""Why a client has ended, or has no relayed address: what was received from the server, in words."""
 from __future__ import annotations
 
 from typing import Optional
@@ -18,7 +18,7 @@ MIN_LIFETIME = 600
 
 
 class Diagnosis:
-    """What was heard of a server, and what it means."""
+    """What was received from a server, and what it means."""
 
     def __init__(self, server: str, max_stale_nonces: int, clock: Clock, requests: Record) -> None:
         self._server, self._max_stale_nonces = server, max_stale_nonces
@@ -27,7 +27,7 @@ class Diagnosis:
         self._error_now: Hint = None
         self._alternate: Optional[Address] = None
         self.socket_error: Optional[Exception] = None
-        """The last error of the socket since the server was heard, or the one that has ended it."""
+        """The last error of the socket since the server answered, or the one that has ended it."""
         self.broken = ""
         """What has ended the connection, or the path, in words."""
 

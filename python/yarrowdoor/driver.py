@@ -15,7 +15,7 @@ MAX_WAIT = 10.0
 
 def drive(workers: Sequence[Worker], holds: Callable[[], bool], seconds: float,
           others: Sequence[Tuple[int, Callable[[], None]]] = ()) -> bool:
-    """Has workers work, in this thread, until something holds, or so many seconds are over, and says whether it holds. `others`
+    """Has workers work, in this thread, until something holds, or this many seconds are over, and says whether it holds. `others`
     are further files to be read, each with what reads it."""
     deadline = time.monotonic() + seconds
     with selectors.DefaultSelector() as selector:

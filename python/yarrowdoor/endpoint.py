@@ -23,15 +23,15 @@ __all__ = ["RelayTransport", "create_datagram_endpoint", "endpoint_over"]
 
 Protocol = TypeVar("Protocol", bound=asyncio.DatagramProtocol)
 
-# So many packets to a peer wait for its channel, and so many bytes to all. A further one is dropped, as a network may drop it.
+# This many packets to a peer wait for its channel, and this many bytes to all. A further one is dropped, as a network may drop it.
 WAITING, MAX_BYTES = 64, 1 << 20
-# From so many bytes on that wait the protocol is to pause, and from so few on to go on, as in asyncio.
+# From this many waiting bytes on the protocol is to pause, and from this few on to go on, as in asyncio.
 HIGH, LOW = 64 * 1024, 16 * 1024
 # So many packets of peers are kept that come before there is a protocol.
 EARLY = 1_024
 # So many peers are remembered: as many as a client has channels.
 MAX_PEERS = 4_096
-# How long a peer is left alone after the server has refused its channel, in seconds.
+# How long no channel is requested for a peer after the server has refused its channel, in seconds.
 REST = 5.0
 
 

@@ -119,7 +119,7 @@ class Grants:
             self._released.add(key)
 
     def created(self, key: Key) -> None:
-        """The client tells that something is granted."""
+        """The client reports that something is granted."""
         self._granted.add(key)
         self._journal.granted(key)
         self.counted(len(self._granted) - len(self._released))
@@ -127,7 +127,7 @@ class Grants:
         self._requests.settle(key, None)
 
     def failed(self, key: Key) -> bool:
-        """The client tells that something is refused, or lost. Says whether it is lost since the server did not answer."""
+        """The client reports that something is refused, or lost. Says whether it is lost since the server did not answer."""
         hint, was_granted = self._requests.error_of(key), key in self._granted
         was_released = key in self._released
         if was_released:

@@ -79,7 +79,7 @@ class Handle:
         self._room = Room(MAX_PACKET)
 
     def free(self) -> None:
-        """Frees the client, which sends nothing. A second time it does nothing. One that is shared is freed when nobody has it."""
+        """Frees the client, which sends nothing. A second time it does nothing. One that is shared is freed with its last owner."""
         if self._is_free:
             return
         self._begin()  # It is not given back.

@@ -47,7 +47,7 @@ class Idle:
                     self._set_kept(about, True)
 
     def ask(self, about: About) -> None:
-        """The user asks for a grant: it is not let go sooner than if it were new."""
+        """The user asks for a grant: it is not released sooner than if it were new."""
         self._used[about] = self._clock.now()
         self._released.discard(about)
 

@@ -15,11 +15,11 @@ from .uri import TurnUri
 __all__ = ["Journal", "Watcher"]
 
 _log = logging.getLogger("yarrowdoor")
-_log.addHandler(logging.NullHandler())  # Else a warning goes to the terminal where nobody asked for a log.
+_log.addHandler(logging.NullHandler())  # Otherwise a warning goes to the terminal of a program without a log.
 # What requests ask for, in the words of the log.
 _NAMES = {reasons.CREATE_PERMISSION: "permission of", reasons.CHANNEL_BIND: "channel to", reasons.CONNECT: "connection to"}
 
-# Is told which request was answered, with which error code, and whether the client has taken the answer.
+# Is called with which request was answered, with which error code, and whether the client has taken the answer.
 Watcher = Callable[[Key, Optional[int], bool], None]
 
 
@@ -29,7 +29,7 @@ class Journal:
     def __init__(self, server: TurnUri, link: Link, counters: Counters) -> None:
         self._server, self._prefix, self.counters = str(server), str(server), counters
         self.watcher: Optional[Watcher] = None
-        """who is told of each answer"""
+        """is called with each answer"""
         self.is_leaving = False
         """whether the relayed address is being deleted, which is a refresh too"""
         self._say(logging.INFO, "connected from %s to %s", link.local, link.remote)

@@ -18,7 +18,7 @@ class Lease:
         self._clock, self._until = clock, 0
 
     def renew(self, lifetime: Optional[int]) -> None:
-        """The server has granted it for so many seconds."""
+        """The server has granted it for this many seconds."""
         self._until = self._clock.now() + (DEFAULT_LIFETIME if lifetime is None else lifetime) * 1_000_000_000
 
     def end(self) -> None:

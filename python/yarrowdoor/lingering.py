@@ -14,7 +14,7 @@ from .link import StreamLink
 
 __all__ = ["LINGER", "linger"]
 
-# How long a data connection stays open after its last byte has left, in seconds. That the peer has had all nobody can know.
+# How long a data connection stays open after its last byte has left, in seconds: nobody can know what the peer has received.
 LINGER = 1.0
 # How often it is looked whether all bytes have left, in seconds.
 LOOK = 0.02

@@ -15,9 +15,9 @@ from .wire import notice_silence
 
 __all__ = ["DatagramLink", "Link", "LinkUser", "StreamLink"]
 
-# The longest datagram, in bytes, and so many are read before the event loop goes on.
+# The longest datagram, in bytes, and how many are read before the event loop goes on.
 MAX_DATAGRAM, BATCH = 65_535, 32
-# After so many datagrams that came alone it is looked whether another one waits: that there is none costs as much as to read one.
+# After this many single datagrams another read looks for more: to find none costs as much as to read one.
 ALONE = 8
 # A longer piece of the connection to the server is taken in slices of this many bytes, and after this many seconds the event loop
 # goes on in between: 256 KiB may be 65,536 messages.
@@ -27,7 +27,7 @@ MAX_LATE = 64
 
 
 class LinkUser:
-    """What has a link, and is told of it."""
+    """What owns a link, and gets its reports."""
 
     def received(self, data: bytes, link: Link) -> None:
         """A datagram has come, or a piece of the stream."""
@@ -62,7 +62,7 @@ class Link:
 
     @property
     def user(self) -> LinkUser:
-        """Who is told what happens."""
+        """What gets the reports."""
         return self._user
 
     @user.setter
@@ -114,7 +114,7 @@ class DatagramLink(Link):
         self.local, self.remote = of_socket(sock.getsockname()), of_socket(sock.getpeername())
         self._recv, self._send = sock.recv, sock.send
         self._late: Deque[bytes] = collections.deque()
-        # How many datagrams are read before the event loop goes on, and how many came alone since it was looked for more.
+        # How many datagrams are read before the event loop goes on, and how many came one by one since it was looked for more.
         self._batch, self._alone = 1, 0
         self._loop.add_reader(self._number, self._read)
 
@@ -141,7 +141,7 @@ class DatagramLink(Link):
             self._batch, self._alone = min(2 * self._batch, BATCH), 0
 
     def _read_on(self) -> None:
-        """Registers the socket again. After an error of it uvloop tells once that there is something to read, and never again."""
+        """Registers the socket again. After an error of it uvloop reports once that there is something to read, and never again."""
         if not self.is_over:
             with contextlib.suppress(OSError):  # another has closed it
                 self._loop.remove_reader(self._number)

@@ -1,7 +1,7 @@
 """An event loop in a thread of its own, and calls into it from other threads.
 
 No call waits for a lock that another one may have: a handler of a signal may interrupt a call, and make another one in the same
-thread. So what is waited for comes through a `queue.SimpleQueue`, whose `put` waits for nobody.
+thread. So what is waited for comes through a `queue.SimpleQueue`, whose `put` never waits.
 """
 from __future__ import annotations
 

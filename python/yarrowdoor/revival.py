@@ -193,7 +193,7 @@ class Revival:
             await asyncio.gather(*(self._regain(client, vigil, it) for it in sorted(asked, key=str)))
 
     async def _regain(self, client: Watched, vigil: Vigil, about: About) -> None:
-        """Asks for what a peer had before. What the server does not grant is told as lost."""
+        """Requests what a peer had before. What the server does not grant is reported as lost."""
         try:
             await (client.permit(about) if isinstance(about, str) else client.bind(about))
         except (ChannelFailed, PermissionFailed, Refused) as failed:

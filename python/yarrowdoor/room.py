@@ -69,7 +69,7 @@ class Room:
         self._has_warned = not load().has_room or refresh_ahead == 0
 
     def counted(self, count: int) -> None:
-        """There are so many grants."""
+        """There are this many grants."""
         if self._has_warned:
             return
         late, delay = self._alarm.late, self._counters.round_trip or 0.0

@@ -18,7 +18,7 @@ from .uri import TurnUri
 
 __all__ = ["ALONE", "NoneSucceeded", "Server", "first_of", "interleaved"]
 
-# How long an attempt is alone before one with the next address begins beside it, in seconds (RFC 8305, section 5).
+# How long an attempt runs before one with the next address begins alongside, in seconds (RFC 8305, section 5).
 STAGGER = 0.25
 # How long an attempt takes before it is given up for the next one, where both would use the same local port, in seconds.
 ALONE = 1.5

@@ -1,4 +1,4 @@
-"""One client over one link: it transmits, takes what comes, tells the events, and sets the timer. Its state is one value."""
+"""One client over one link: it transmits, takes what comes, reports the events, and sets the timer. Its state is one value."""
 from __future__ import annotations
 
 import asyncio

@@ -14,7 +14,7 @@ __all__ = ["Standing", "UNKNOWN"]
 # What a server answers that does not know the relayed address: 437, and coturn 400 (docs/REAL-SERVERS.md), and 441 where it was
 # restarted with another realm.
 UNKNOWN = (400, 437, 441)
-# Addresses that no host has (RFC 5737, RFC 3849). A permission for one of them lets nobody in.
+# Addresses that no host has (RFC 5737, RFC 3849). A permission for one of them permits no host.
 NOWHERE = {4: "192.0.2.{}", 6: "2001:db8::{:x}"}
 NUMBERS = range(1, 255)
 

@@ -8,7 +8,7 @@ __all__ = ["Tasks"]
 
 
 class Tasks(Set["asyncio.Future[Any]"]):
-    """Tasks that are kept until they are done: the event loop alone keeps none."""
+    """Tasks that are kept until they are done: the event loop itself keeps none."""
 
     def spawn(self, work: Awaitable[Any]) -> None:
         """Runs something beside."""

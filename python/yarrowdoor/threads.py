@@ -86,7 +86,7 @@ class Tally:
         return self._counts.get(thread) or self._counts.setdefault(thread, [0, 0, 0])
 
     def sent(self, size: int) -> None:
-        """Data of so many bytes has left."""
+        """Data of this many bytes has left."""
         own = self._own()
         own[0] += 1
         own[1] += size
@@ -108,7 +108,7 @@ class ThreadClient(TurnClient):
         super().__init__(*args, queue=queue, receiver=receiver, **settings)
         self.thread = thread
         self.is_left = False
-        """whether it was closed, or nobody has it any more"""
+        """whether it was closed, or has no owner any more"""
         self.inbox = self._inbox = ThreadInbox(queue, receiver)
         self._tally = Tally()
         self._outgoing: Deque[bytes] = collections.deque()
@@ -125,7 +125,7 @@ class ThreadClient(TurnClient):
             await session.link.wait_closed()
 
     async def enter(self) -> None:
-        """Opens the client, and closes it where nobody waits for that any more."""
+        """Opens the client, and closes it if that is no longer waited for."""
         await self.open()
         if self.is_left:
             await self.close()
@@ -213,7 +213,7 @@ class ThreadClient(TurnClient):
                 return False
 
     def _tell(self, session: Session, link: Link, error: OSError) -> None:
-        """Tells an error of the socket where the event loop's own sends tell it."""
+        """Reports an error of the socket where the event loop's own sends report it."""
         if not session.over.done():
             with contextlib.suppress(NotAnswered):
                 self.thread.do(lambda: link.user.refused(link, error))

@@ -99,7 +99,7 @@ class Watched(TurnClient):
         return sum(it.count for it in self._sessions), self._server.signs
 
     def watch(self, watcher: Optional[Watcher]) -> None:
-        """Has each answer of the server told."""
+        """Has each answer of the server reported."""
         if isinstance(self._phase, Session):
             self._phase.journal.watcher = watcher
 
@@ -151,7 +151,7 @@ class Tries:
         self._due, self._waits = 0.0, self._backoff.waits()
 
     async def client(self, tell: Callable[[Exception], None], leave: Callable[[Watched], None]) -> Watched:
-        """A client that is open. Raises what no other try would mend; of all else it tells, and tries again. `leave` closes the
+        """A client that is open. Raises what no other try would fix; it reports all else, and tries again. `leave` closes the
         clients that are not opened in time."""
         loop = asyncio.get_running_loop()
         while True:

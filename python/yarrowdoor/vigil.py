@@ -18,7 +18,7 @@ __all__ = ["UNSURE", "Vigil"]
 
 # How often it is looked whether this host still has the address that its socket is bound to, in seconds.
 LOOK = 1.0
-# Between two questions lie so many seconds, and so many in a row without an answer are the end.
+# Between two questions there are this many seconds, and this many in a row without an answer are the end.
 PAUSE, RUN = 1.0, 3
 # How long a signed answer may still come after a second 401, in seconds.
 GRACE = 1.0
@@ -71,7 +71,7 @@ class Vigil:
         return Ended("the client was closed")
 
     async def _moved(self) -> Exception:
-        """Waits until this host has another address. Not every socket is told so: a stream is silent then for half a minute."""
+        """Waits until this host has another address. Not every socket reports that: a stream is silent then for half a minute."""
         try:
             link = self._client.link
         except Ended as ended:

@@ -1,4 +1,4 @@
-"""One socket to the server without an event loop: bytes out, bytes in, and each of both is told to a tap."""
+"""One socket to the server without an event loop: bytes out, bytes in, and each of both is reported to a tap."""
 from __future__ import annotations
 
 import contextlib
@@ -28,7 +28,7 @@ Where = Sequence[Union[str, int]]
 
 
 class Tap:
-    """What is told of each packet. This one keeps nothing."""
+    """Gets each packet. This one keeps nothing."""
 
     def datagram(self, source: Where, destination: Where, data: bytes, now: float) -> None:
         """A datagram has left, or come, at this time in seconds since 1970."""
@@ -132,7 +132,7 @@ def connect_udp(host: str, port: int, tap: Tap = Tap()) -> Wire:
 
 def connect_stream(host: str, port: int, seconds: float, tap: Tap = Tap(), context: Optional[tls.SSLContext] = None,
                    name: str = "") -> Wire:
-    """A connection over TCP to an IP address, or with a context over TLS to a server of this name, within so many seconds.
+    """A connection over TCP to an IP address, or with a context over TLS to a server of this name, within this many seconds.
     `OSError` if there is none: `ssl.SSLCertVerificationError` if the certificate is the reason, and `SilentHandshake`."""
     sock = socket.create_connection((host, port), seconds)
     try:
@@ -156,7 +156,7 @@ def notice_silence(sock: socket.socket) -> None:
 
 
 def writable(sock: socket.socket, seconds: float) -> None:
-    """Waits until a socket takes more, or for so many seconds. Its number may be any, unlike those that `select.select` takes."""
+    """Waits until a socket takes more, or for this many seconds. Its number may be any, unlike those that `select.select` takes."""
     waiting = select.poll()
     try:
         waiting.register(sock, select.POLLOUT)

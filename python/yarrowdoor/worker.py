@@ -58,7 +58,7 @@ class Worker:
         self.why: Optional[Exception] = None
         """why it has ended by itself"""
         self.error: Optional[OSError] = None
-        """the last error of the socket since the server was heard"""
+        """the last error of the socket since the server answered"""
         self.address: Optional[Address] = None
         self.mapped: Optional[Address] = None
         """this client's own address, as the server saw it"""
@@ -98,7 +98,7 @@ class Worker:
             self.diagnosis.begins()
             return False
         if isinstance(rest, AllocateTcpSocket):
-            self.client.allocated_tcp_socket(rest, None, now)  # A peer's connection, which nobody here wants.
+            self.client.allocated_tcp_socket(rest, None, now)  # A peer's connection, which is not wanted here.
         elif not isinstance(rest, TcpClose):
             self._take_events()
             self.end()
@@ -137,7 +137,7 @@ class Worker:
         return not self.is_over and self.wire.has_more()
 
     def take(self) -> None:
-        """Takes what has come, some of it at a time, so that a flood keeps nobody out."""
+        """Takes what has come, some of it at a time, so that a flood keeps no other caller out."""
         for _ in range(MAX_TAKEN):
             if self.is_over or not self._take_next():
                 return
@@ -279,4 +279,4 @@ class Worker:
         """The socket has an error, which ends a stream."""
 
     def told(self, event: Event) -> None:
-        """The client has told an event."""
+        """The client has reported an event."""

@@ -11,13 +11,13 @@ pub(crate) struct Handle {
     client: NonNull<sys::Client>,
 }
 
-// SAFETY: what the pointer leads to is memory of `malloc`, which this value alone owns, and which any thread may use and
+// SAFETY: what the pointer leads to is memory of `malloc`, which only this value owns, and which any thread may use and
 // free. The library has no other state: `tools/build/library` refuses one with variables. A call that may change the client
 // overlaps no other, since it takes a `&mut self`. This is an argument, and no proof: Rattle does not know a client as `Send`.
 unsafe impl Send for Handle {}
 
 // SAFETY: a `&Handle` makes no call but `yarrowdoor_look`. That only reads what the pointer leads to: the code that looks is
-// proved over a session that it cannot write to. It takes no memory, and writes to the answer alone, which its caller has to
+// proved over a session that it cannot write to. It takes no memory, and writes only to the answer, which its caller has to
 // itself. So calls of several threads do not meet, and none that changes the client is made while a `&Handle` lives. This too
 // is an argument: the contract of that export has the whole session for as long as the call lasts.
 unsafe impl Sync for Handle {}

@@ -54,7 +54,7 @@ impl TurnClientTcp {
         TurnClientTcp::allocate_with_seed(local_addr, remote_addr, config, system_seed())
     }
 
-    /// The same, with this seed: 32 bytes that nobody else knows, new for each client. The same seed and the same calls
+    /// The same, with this seed: 32 secret bytes, new for each client. The same seed and the same calls
     /// give the same packets.
     #[must_use]
     #[allow(clippy::needless_pass_by_value)] // as the original's `allocate`

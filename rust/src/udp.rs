@@ -52,7 +52,7 @@ impl TurnClientUdp {
         TurnClientUdp::allocate_with_seed(local_addr, remote_addr, config, system_seed())
     }
 
-    /// The same, with this seed: 32 bytes that nobody else knows, new for each client. The same seed and the same calls
+    /// The same, with this seed: 32 secret bytes, new for each client. The same seed and the same calls
     /// give the same packets.
     ///
     /// # Panics

@@ -27,7 +27,7 @@ fn client() -> TurnClientUdp {
     TurnClientUdp::allocate_with_seed(local, remote, config(), SEED)
 }
 
-// README, One exchange: the first ALLOCATE of this client under the seed of zeros.
+// docs/rattle/LINES.md, An exchange: the first ALLOCATE of this client under the seed of zeros.
 #[test]
 fn a_client_moves_to_another_thread() {
     let mut client = client();

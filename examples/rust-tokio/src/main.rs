@@ -2,7 +2,7 @@
 //!
 //! usage: `echo-tokio SERVER:PORT USER PASSWORD PEER:PORT TEXT`
 //!
-//! The socket and the clock are tokio's. `examples/rust/README.md` says how to run it.
+//! The socket and the clock are tokio's. `examples/README.md` says how to run it.
 
 mod relay;
 

@@ -2,7 +2,7 @@
 //!
 //! usage: `echo SERVER:PORT USER PASSWORD PEER:PORT TEXT`
 //!
-//! It is the whole caller of the package: a socket and a clock. `examples/rust/README.md` says how to run it.
+//! It is the whole caller of the package: a socket and a clock. `docs/start/RUST.md` says how to run it.
 
 use std::env;
 use std::error::Error;

@@ -5,7 +5,7 @@ import { Frames } from "./reasons.js";
 
 /** @typedef {import("../address.js").Address} Address */
 
-/** An error of a stream that nobody has yet. */
+/** An error of a stream that has not been delivered yet. */
 const unseen = () => {};
 
 /** A data connection to the server, and the stream to its peer. */

@@ -18,7 +18,7 @@ export class Deferred {
             this.#resolve = resolve;
             this.#reject = reject;
         });
-        this.promise.catch(() => {}); // nobody has to wait for it
+        this.promise.catch(() => {}); // it need not be awaited
     }
 
     /**

@@ -1,4 +1,4 @@
-// What a relay publishes on channels of node:diagnostics_channel, for logs and traces. Nothing is made if nobody subscribes.
+// What a relay publishes on channels of node:diagnostics_channel, for logs and traces. Nothing is made without a subscriber.
 import diagnostics from "node:diagnostics_channel";
 
 /**

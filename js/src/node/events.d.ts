@@ -8,7 +8,7 @@ import { PeerStream } from "./peer-stream.js";
 export interface RelayEvents {
     /** A peer sent data. Without a listener it waits for `for await`. */
     message: (data: Buffer, peer: RemoteInfo) => void;
-    /** The relay has ended by itself. An error that nobody listens to is thrown, unless a `for await` is under way, which has it. */
+    /** The relay has ended by itself. Without a listener it is thrown, unless a `for await` is under way, which has it. */
     error: (error: Ended) => void;
     /** The relay has ended, by `close` or by itself. Nothing comes any more. */
     close: () => void;

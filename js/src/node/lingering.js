@@ -2,7 +2,7 @@
 import { readFile } from "node:fs/promises";
 import { CLOCK, pause } from "./clock.js";
 
-/** How long a data connection stays open after its last byte has left, in milliseconds. That the peer has all, nobody can know. */
+/** How long a data connection stays open after its last byte has left, in milliseconds. Whether the peer has all cannot be known. */
 export const LINGER = 1_000;
 /** How often it is looked whether all bytes have left, in milliseconds. */
 const LOOK = 50;

@@ -17,7 +17,7 @@ import { Room } from "./room.js";
  *     readonly socket?: import("node:dgram").Socket | import("node:net").Socket }} Own
  */
 
-/** So many packets are handed to the system before it has told of the first. More may be lost there without a word. */
+/** This many packets are handed to the system before it has reported the first. More may be lost there silently. */
 const MOST_PENDING = 256;
 /** A stream on which nothing is sent is asked for a sign of life after so long, in milliseconds. */
 const KEEPALIVE = 15_000;
@@ -94,7 +94,7 @@ export class DatagramLink {
         socket.on("close", () => this.#closed());
     }
 
-    /** Whether the system has not told yet of what was handed to it. */
+    /** Whether the system has not reported yet what was handed to it. */
     get isFull() {
         return this.#pending >= MOST_PENDING;
     }

@@ -16,7 +16,7 @@ function remoteInfo(peer, size) {
     return peer.flow === undefined ? { address, port, family, size } : { ...peer, size };
 }
 
-/** An emitter whose `message` events can be taken by `for await` too, where nobody listens. */
+/** An emitter whose `message` events can be taken by `for await` too, if there is no listener. */
 export class Messages extends RelayEmitter {
     #inbox;
     /** @type {import("../errors.js").Ended | undefined} */

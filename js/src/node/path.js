@@ -54,7 +54,7 @@ export class Path {
     }
 
     /**
-     * Asks by a request of this method, which nobody has signed, and without attributes.
+     * Asks by a request of this method, unsigned, and without attributes.
      * @param {number} method
      * @returns {Promise<{ isAnswered: boolean, mapped: Address | undefined }>}
      */
@@ -92,7 +92,7 @@ export class Path {
 
     /**
      * Checks the path by itself, at an interval in milliseconds. The relay ends when three checks in a row have no answer, with nothing
-     * from the server in between. Where one has none, the next one asks for a permission for nobody: each TURN server refuses that,
+     * from the server in between. If one has none, the next one requests a permission for no peer: each TURN server refuses that,
      * also one that answers no Binding request.
      * @param {number} every
      */

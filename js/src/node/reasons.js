@@ -93,7 +93,7 @@ export function lifetimeOf(library, packet) {
 }
 
 /**
- * A request without attributes, which nobody has signed. A server answers a Binding request (RFC 8489, section 3) with this client's
+ * An unsigned request without attributes. A server answers a Binding request (RFC 8489, section 3) with this client's
  * address, and one for a permission with an error (RFC 8489, section 9.2.4; RFC 8656, section 9.2).
  * @param {number} method of METHOD
  * @param {Uint8Array} id

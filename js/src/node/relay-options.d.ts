@@ -26,7 +26,7 @@ export interface RelayOptions {
     readonly tls?: ConnectionOptions;
     /** How long a request waits for its response, by default 39.5 s in all. */
     readonly times?: Times;
-    /** How many packets of peers wait if nobody listens to `message`; a further one is dropped and counted. By default 1,024. */
+    /** How many packets of peers wait without a listener of `message`; a further one is dropped and counted. By default 1,024. */
     readonly queue?: number;
     /**
      * Milliseconds between checks of the path to the server: three in a row without an answer, with nothing from the server in

@@ -28,7 +28,7 @@ const MOST_LOST = 1_024;
  * relay ends. Events:
  *
  * - `message` (data, peer): a peer sent data, a Buffer. Without a listener it waits for `for await`.
- * - `error` (an `Ended`): the relay has ended by itself. As with all emitters an error that nobody listens to is thrown, unless a
+ * - `error` (an `Ended`): the relay has ended by itself. As with all emitters it is thrown without a listener, unless a
  *   `for await` is under way, which has it.
  * - `close`: it has ended, by `close` or by itself. Nothing comes any more.
  * - `lost` (`{ what, ip }` or `{ what, peer }`): the server no longer renews a permission or a channel. It may have been restarted.
@@ -84,7 +84,7 @@ export class Relay extends Sending {
     }
 
     /**
-     * What its session tells it. A session that was given up tells nobody.
+     * What its session reports. A session that was given up reports nothing.
      * @returns {import("./state.js").SessionUser}
      */
     #user() {

@@ -146,7 +146,7 @@ export class Requests {
     }
 
     /**
-     * Tells who waits for a request how it went, and says whether anyone did.
+     * Settles the promise of a request, and says whether one was waiting.
      * @param {Key} key
      * @param {Error | undefined} error
      */

@@ -2,7 +2,7 @@
 import { Deferred } from "./deferred.js";
 
 /**
- * Those who wait for room in a socket, one after the other: who is let go finds it, where nobody else has sent meanwhile. If all were
+ * Those who wait for room in a socket, one after the other: who is released finds it, unless another one has sent meanwhile. If all were
  * let go at once, the first ones would fill the socket again, and the others would find it full.
  */
 export class Room {

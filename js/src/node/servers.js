@@ -7,7 +7,7 @@ import { abortable } from "./deferred.js";
 import { DataLink } from "./data-link.js";
 import { DatagramLink, StreamLink, remoteOf } from "./link.js";
 
-/** How long an attempt is alone before one with the next address begins beside it, in milliseconds (RFC 8305, section 5). */
+/** How long an attempt runs before one with the next address begins alongside, in milliseconds (RFC 8305, section 5). */
 const STAGGER = 250;
 
 /**
@@ -143,7 +143,7 @@ export class NoneSucceeded extends Error {
 
 /**
  * Attempts one after the other, of addresses or of URIs, each 250 ms after the last one began, or at once where that one has failed;
- * only then where they are to be alone.
+ * only then if they are to run one by one.
  * Gives what the first one found that succeeds; the other attempts are given up, and what one of them finds meanwhile is discarded.
  * NoneSucceeded if all fail.
  * @template T, Item

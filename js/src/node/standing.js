@@ -3,7 +3,7 @@ import { PermissionFailed, YarrowdoorError } from "../errors.js";
 import { pause } from "./clock.js";
 import { isForgotten, permissionKey } from "./reasons.js";
 
-/** So many addresses that no host has (RFC 5737, RFC 3849) are asked for by turns. A permission for one of them lets nobody in. */
+/** So many addresses that no host has (RFC 5737, RFC 3849) are asked for by turns. A permission for one of them permits no host. */
 const NUMBERS = 254;
 /** How long the answer is waited for, in milliseconds: as long as that to a Binding request. */
 const WAIT = 3_500;

@@ -12,7 +12,7 @@ from .reach import Way
 
 __all__ = ["Ahead"]
 
-# A server that answers within so many seconds is near, and nothing is sent ahead. The packets that ask whether it is there have
+# A server that answers within this many seconds is near, and nothing is sent ahead. The packets that ask whether it is there have
 # left by then, so that a limit of new flows sees them first.
 _NEAR = 0.05
 

@@ -39,7 +39,7 @@ class Load:
 
 def bench(server: Server, peer: Optional[Address], seconds: float, size: int, rate: float, has_channel: bool, is_json: bool,
           out: TextIO, errors: TextIO) -> int:
-    """Prints what was measured in so many seconds: with as many packets as come back, or `rate` a second where it is not 0. The
+    """Prints what was measured in this many seconds: with as many packets as come back, or `rate` a second where it is not 0. The
     status is 0 where any came back, and else 1. `CannotRelay` where nothing could be sent."""
     opened: List[Exchange] = []
     try:
@@ -56,7 +56,7 @@ def bench(server: Server, peer: Optional[Address], seconds: float, size: int, ra
 
 
 def _run(trip: Trip, seconds: float, size: int, rate: float, told: Bar) -> Load:
-    """Sends for so many seconds, and counts what comes back."""
+    """Sends for this many seconds, and counts what comes back."""
     load, payload = Load(), bytes(size)
     under_way, heard = 0, time.monotonic()
 

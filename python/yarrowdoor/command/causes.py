@@ -12,7 +12,7 @@ __all__ = ["about_closed", "about_other", "about_unwanted", "shown"]
 
 
 def shown(heard: Heard, name: str) -> str:
-    """What was heard, in some words."""
+    """What was received, in some words."""
     if heard.verdict is Verdict.HANDSHAKE and isinstance(heard.error, tls.SSLError):
         return f"TLS fails: {explain_alert(heard.error, name)[0]}"
     if heard.verdict is Verdict.REJECTED and heard.rejection is not None:

@@ -44,7 +44,7 @@ class Challenge:
 
 
 def _algorithms(value: Optional[bytes]) -> Tuple[str, ...]:
-    """The algorithms of PASSWORD-ALGORITHMS: each a number, and parameters of so many bytes (RFC 8489, section 14.11)."""
+    """The algorithms of PASSWORD-ALGORITHMS: each a number, and parameters of this many bytes (RFC 8489, section 14.11)."""
     found: List[str] = []
     while value is not None and len(value) >= 4:
         number, size = struct.unpack_from("!HH", value)

@@ -65,7 +65,7 @@ class Plan:
 
 
 def check(plan: Plan, output: Output, tap: Tap) -> None:
-    """Does all steps, as far as they can be done, and tells each to the output."""
+    """Does all steps, as far as they can be done, and reports each to the output."""
     step, hosts = find_addresses(plan.uri, plan.family, plan.seconds)
     output.add(step)
     if not hosts:

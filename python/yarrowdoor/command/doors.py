@@ -17,7 +17,7 @@ from .steps import Facts, Outcome, Step
 __all__ = ["Doors", "find_addresses", "try_doors"]
 
 _TLS_PORT, _PORT = 5349, 3478
-# Of a certificate that ends within so many days it is said.
+# A certificate that ends within this many days is reported.
 _SOON = 14
 
 
@@ -74,7 +74,7 @@ class Doors:
         return Way(self._hosts[0], door) if door is not None else None
 
     def is_way_known(self, seconds: float = 0.0) -> bool:
-        """Whether all was heard at the door of the URI, or is within so many seconds."""
+        """Whether all answers at the door of the URI are here, or come within this many seconds."""
         return self.knocking.is_heard(self.wanted, seconds)
 
     def stream_way(self) -> Optional[Way]:
@@ -88,11 +88,11 @@ class Doors:
         return [Way(it.host, way.door) for it in heard if it.verdict is Verdict.ANSWERS and it.host != way.host]
 
     def heard(self) -> Dict[str, List[Heard]]:
-        """What was heard at each door, by its transport, when all was."""
+        """What each door answered, by its transport, once all have."""
         return {it.transport: self.knocking.heard(it.transport) for it in self.all}
 
     def steps(self) -> List[Step]:
-        """The steps of all doors, when all was heard."""
+        """The steps of all doors, once all have answered."""
         heard = self.heard()
         ways = {it.transport: self._first(it.transport) for it in self.all}
         return [_judged(it, heard, it.transport == self.wanted, ways) for it in self.all]
@@ -141,7 +141,7 @@ def _judged(door: Door, heard: Dict[str, List[Heard]], is_wanted: bool, ways: Di
         return _open(door, own, best, is_wanted, facts)
     said = f"port {door.port}: {causes.shown(best, door.name)}"
     if not is_wanted:
-        # Where nothing answers, that is what is to be mended.
+        # If nothing answers, that is what has to be fixed.
         advice = causes.about_unwanted(door, best) if any(ways.values()) else ""
         return Step(door.transport, Outcome.NOTE, said, best.seconds, advice, facts)
     outcome = Outcome.UNTRIED if all(it.verdict in NOT_OF_SERVER for it in own) else Outcome.FAILED

@@ -22,7 +22,7 @@ __all__ = [
     "balancer_step", "blamed_on_balancer", "flows_step", "limit_step", "nonce_step", "quota_step", "server_step", "streams_step",
 ]
 
-# Addresses that nobody has (RFC 5737): a permission for one lets nobody send.
+# Addresses that no host has (RFC 5737): a permission for one lets no host send.
 _NOBODY = ipaddress.ip_network("192.0.2.0/24")
 # How often a nonce is tried, in seconds: not more often than that, and each address once.
 _LEAST_PAUSE = 1.0
@@ -89,7 +89,7 @@ def flows_step(exchanges: Sequence[Exchange]) -> Optional[Step]:
 
 
 def nonce_step(exchange: Exchange, longest: float, told: Callable[[int], None]) -> Step:
-    """How long the server takes one nonce: requests a permission now and then, up to so many seconds, until it is stale."""
+    """How long the server takes one nonce: requests a permission now and then, for up to this many seconds, until it is stale."""
     begun, before = time.monotonic(), exchange.stale
     pause = max(_LEAST_PAUSE, longest / 250)
     for number, nobody in enumerate(_NOBODY.hosts()):

@@ -52,7 +52,7 @@ def explain_alert(error: tls.SSLError, name: str) -> Tuple[str, str]:
 
 def read_alert(sock: socket.socket, context: tls.SSLContext, name: str, seconds: float) -> \
         Optional[tls.SSLError]:
-    """The alert with which a server ends a handshake over this connection, or None where none comes within so many seconds.
+    """The alert with which a server ends a handshake over this connection, or None if none comes within this many seconds.
 
     A server that ends a connection before it has read all of it resets it (RFC 9293, section 3.10.7.1). Then sending fails, and
     what the server sent before can still be read: so this reads on where it can send no more.

@@ -22,7 +22,7 @@ __all__ = ["Joining", "Limits"]
 
 # The packets of an echo: how many, their bytes, and the pause between two, in seconds.
 COUNT, SIZE, PAUSE = 100, 160, 0.002
-# So many packets tell whether anything comes back.
+# This many packets show whether anything comes back.
 _FEW = 10
 # The longest payload that is tried over UDP, in bytes. Over TCP a longer one than this may end a server (pion ends at 1,600).
 MOST, MOST_OF_STREAM = 65_468, 1_500
@@ -130,8 +130,8 @@ class Joining:
         return Trip(self._first, self._second.address, (self._first, self._second), self._files(), self._beside)
 
     def _bind_after(self, count: int, peer: Address) -> None:
-        """Has the channels asked for when the second one has sent so many packets back: the last ones are on their way as messages
-        then, and a server that is far away answers when they come, in place of a round trip later."""
+        """Has the channels asked for when the second one has sent this many packets back: the last ones are then on their way as
+        messages, and a server that is far away answers when they come, instead of a round trip later."""
         back, left = self._second.on_data, itertools.count(1)
 
         def count_back(data: bytes, source: Address) -> None:

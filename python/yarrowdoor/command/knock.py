@@ -28,14 +28,14 @@ _TIMES, _PAUSE = (0.0, 0.25, 0.75), 0.5
 _SECOND, _LATE = 1.0, 1.0
 # The pause after which the request that has no answer is sent again, while the second answer is waited for.
 _SOON = 0.15
-# The longest wait when a port is looked at again, to tell what it is.
+# The longest wait when a port is looked at again, to find out what it is.
 _AGAIN = 0.75
 # What a connection says that was made, and is no more.
 _BROKEN = (errno.ENOTCONN, errno.EPIPE, errno.ECONNRESET, errno.ECONNABORTED)
 
 
 def knock(door: Door, host: str, seconds: float, tap: Tap) -> Heard:
-    """Asks at a door for at most so many seconds, and a second more where nothing answers, so as to tell why."""
+    """Asks at a door for at most this many seconds, and a second more if nothing answers, to find out why."""
     begun = time.monotonic()
     try:
         wire = connect_udp(host, door.port, tap) if door.transport == "udp" else \

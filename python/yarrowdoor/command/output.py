@@ -20,7 +20,7 @@ JSON_VERSION = 1
 
 
 class Bar:
-    """How far something is, on a terminal alone. It is gone when it is done."""
+    """How far something is, only on a terminal. It is gone when it is done."""
 
     def __init__(self, file: TextIO, is_shown: bool, what: str, count: int) -> None:
         self._file, self._what, self._count = file, what, max(1, count)

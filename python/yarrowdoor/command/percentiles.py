@@ -12,7 +12,7 @@ _PARTS = {"p50": 50, "p90": 90, "p99": 99, "most": 100}
 
 
 def percentile(times: Sequence[float], part: float) -> float:
-    """The least of these times that so many percent of them do not exceed. There has to be one."""
+    """The least of these times that this many percent of them do not exceed. There has to be one."""
     ordered = sorted(times)
     return ordered[max(1, math.ceil(len(ordered) * part / 100)) - 1]
 

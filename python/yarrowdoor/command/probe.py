@@ -63,7 +63,7 @@ def probe_once(probing: Probing) -> int:
 
 
 def probe(probing: Probing, every: float, listen: Address) -> int:
-    """Checks each so many seconds, and serves the metrics, until the user ends it, with status 0.
+    """Checks every this many seconds, and serves the metrics, until the user ends it, with status 0.
     `OSError` where the port is taken. A line is printed where other steps fail than before, or an
     object of JSON for each check."""
     before, count = "", 0

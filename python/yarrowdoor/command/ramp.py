@@ -24,7 +24,7 @@ from .traffic import send_back
 
 __all__ = ["Ramp"]
 
-# A server that has answered before is waited for so many times as long as for its first answer.
+# A server that has answered before is waited for this many times as long as for its first answer.
 _PATIENCE = 2.0
 # So many addresses are given back at a time, so that no burst of requests is lost, and each lot is
 # waited for so long, in seconds.
@@ -79,7 +79,7 @@ class Ramp:
         return self._has_refused or 0 < len(self.held) == len(self.lost)
 
     def climb(self, most: int, rate: float) -> Step:
-        """Asks for so many relayed addresses, at this rate a second, until one is refused."""
+        """Requests this many relayed addresses, at this rate a second, until one is refused."""
         self._begun = time.monotonic()
         while self._stop is None and self._asked < most:
             due = self._begun + self._asked / rate

@@ -63,7 +63,7 @@ class Way:
 
 @dataclass(frozen=True)
 class Heard:
-    """What was heard at an address."""
+    """What an address answered."""
 
     verdict: Verdict
     host: str
@@ -81,7 +81,7 @@ class Heard:
 
 def lookup(host: str, port: int, family: Optional[int], seconds: float) -> List[str]:
     """The IP addresses of a name, of one family if it is given, IPv6 and IPv4 by turns. `socket.gaierror` where there is none, and
-    `TimeoutError` where nobody has answered in time."""
+    `TimeoutError` if there was no answer in time."""
     kind = {None: socket.AF_UNSPEC, 4: socket.AF_INET, 6: socket.AF_INET6}[family]
     answers: queue.SimpleQueue[Union[List[str], OSError, UnicodeError]] = queue.SimpleQueue()
 
@@ -91,7 +91,7 @@ def lookup(host: str, port: int, family: Optional[int], seconds: float) -> List[
         except (OSError, UnicodeError) as error:
             answers.put(error)
 
-    # The system may take half a minute, which nothing can end: so nobody waits for this thread.
+    # The system may take half a minute, which nothing can end, so this thread is not waited for.
     threading.Thread(target=ask, daemon=True).start()
     try:
         answer = answers.get(timeout=seconds)
@@ -122,19 +122,19 @@ class Knocking:
         self._pool.shutdown()
 
     def heard(self, transport: str) -> List[Heard]:
-        """What was heard at the door of this transport, by address, when all of it was."""
+        """What the door of this transport answered, by address, once all addresses have."""
         return [it.result() for it in self._asked[transport]]
 
     def is_heard(self, transport: str, seconds: float) -> bool:
-        """Whether all was heard at the door of this transport, or is within so many seconds."""
+        """Whether all answers at the door of this transport are here, or come within this many seconds."""
         return not wait(self._asked[transport], seconds).not_done
 
     def is_done(self) -> bool:
-        """Whether all was heard at all doors."""
+        """Whether all doors have answered."""
         return all(it.done() for asked in self._asked.values() for it in asked)
 
     def when_heard(self, do: Callable[[], None]) -> None:
-        """Has something done, by another thread, whenever something was heard."""
+        """Has something done, by another thread, whenever something was received."""
         for asked in self._asked.values():
             for it in asked:
                 it.add_done_callback(lambda _: do())

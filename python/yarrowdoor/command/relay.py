@@ -24,7 +24,7 @@ _LOOK = 5.0
 
 
 def relay(server: Server, listen: Address, peer: Address, out: TextIO) -> int:
-    """Carries packets until the user ends it, with status 0, or the server does, which is told by `CannotRelay`."""
+    """Carries packets until the user ends it, with status 0, or the server does, which raises `CannotRelay`."""
     opened: List[Exchange] = []
     with contextlib.closing(_listening(listen)) as local:
         try:

@@ -27,7 +27,7 @@ class _Network:
     block: str
 
 
-# Blocks of special use (RFC 6890; RFC 6598), and the address at which clouds tell a host its secrets.
+# Blocks of special use (RFC 6890; RFC 6598), and the address at which clouds give a host its secrets.
 _NETWORKS = (
     _Network("metadata", "169.254.169.254", "the metadata service of clouds, which tells a host its secrets", "169.254.0.0/16"),
     _Network("loopback", "127.0.0.1", "the server's own host (loopback)", "127.0.0.0/8"),

@@ -31,13 +31,13 @@ _LONG_SIZES, _ROUND = (24000, 32000, 64000), 12
 # How often a packet and its echo go between here and the server: to it, back to the second relayed address, to the server again,
 # and back to the first one.
 CROSSINGS = 4
-# When so many packets have come back, the next one is waited for so long at least, in seconds.
+# When this many packets have come back, the next one is waited for at least this long, in seconds.
 _KNOWN, _TAIL = 10, 0.7
-# Of so many lost packets it is tried with more of them whether they are too many.
+# After this many lost packets more are sent, to find out whether they are too many.
 _DOUBTFUL, _MORE = 3, 3
-# Where more than this part is lost, few small packets tell a limit of rate from loss: so many, and the pause after each.
+# If more than this part is lost, this many small packets, with this pause after each, tell a rate limit from loss.
 _MANY, _FEW, _SLOWLY = 0.25, 12, 0.1
-# Where nothing comes back so few do, after a pause of so many seconds.
+# If nothing comes back, this few are sent, after a pause of this many seconds.
 _TRICKLE, _REST = 3, 0.3
 # With round trips that are longer than this, in seconds, the longest payload is not looked for in further rounds.
 FAR = 0.1
@@ -59,7 +59,7 @@ class Trip:
     """those that may work meanwhile, and end"""
 
     def drive(self, holds: Callable[[], bool], seconds: float) -> bool:
-        """Has all of them work, until something holds, or so many seconds are over, and says whether it holds."""
+        """Has all of them work, until something holds, or this many seconds are over, and says whether it holds."""
         return drive([*self.all, *self.beside], holds, seconds, self.others)
 
 
@@ -120,8 +120,8 @@ def _rest(back: Dict[int, List[float]], wait: float) -> float:
 
 
 def send_all(trip: Trip, sizes: Sequence[int], pause: float, wait: float, told: Callable[[int], None]) -> Dict[int, List[float]]:
-    """Sends a packet of each size, with a pause after each, and waits until nothing has come back for so many seconds, or, when it
-    is known by others how soon packets come back, for less: by number, the round trips of each."""
+    """Sends a packet of each size, with a pause after each, and waits until nothing has come back for this many seconds, or for
+    less if other packets have shown how soon they come back: by number, the round trips of each."""
     # Wireshark takes a packet whose first byte is this for no RTP, whatever comes after it.
     tag, left, back = b"\xff" + os.urandom(7), {}, {}  # type: bytes, Dict[int, float], Dict[int, List[float]]
 
@@ -199,7 +199,7 @@ def echo_step(trip: Trip, way: str, flight: Flight, told: Callable[[int], None],
 
 
 def _judged(trip: Trip, way: str, found: Echoes, max_loss: float, is_limited: bool) -> Step:
-    """The step of packets of which so many came back."""
+    """The step of packets of which this many came back."""
     if not found.times and not is_limited:
         told = _nothing(trip) if way == "messages" else (
             "Messages pass, and nothing comes back by channels: a firewall on the way that looks into TURN, or the server, drops "
