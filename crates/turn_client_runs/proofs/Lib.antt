@@ -61,6 +61,7 @@ pub mod MadeLemmas
 pub mod OfferCalls
 pub mod OfferMessages
 pub mod OfferRuns
+pub mod PacedLemmas
 pub mod PeerLemmas
 pub mod PieceLemmas
 pub mod PiecesLemmas
@@ -87,6 +88,7 @@ pub mod RunCutLemmas
 pub mod RunEvents
 pub mod RunGrants
 pub mod RunLemmas
+pub mod SendTimeLemmas
 pub mod SentCalls
 pub mod SentQueues
 pub mod SentRuns

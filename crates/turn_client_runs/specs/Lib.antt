@@ -22,6 +22,7 @@ pub mod Late
 pub mod LateRows
 pub mod Offers
 pub mod OnTime
+pub mod Paced
 pub mod Peers
 pub mod Processed
 pub mod Promises
