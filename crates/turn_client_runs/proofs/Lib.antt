@@ -30,6 +30,7 @@ pub mod InOrderSteps
 pub mod InputsOfRuns
 pub mod LastingAgain
 pub mod LastingBegun
+pub mod LastingBurstLemmas
 pub mod LastingCalls
 pub mod LastingCounts
 pub mod LastingEffects

@@ -15,6 +15,7 @@ pub mod InOrder
 pub mod InPieces
 pub mod Inputs
 pub mod Lasting
+pub mod LastingBursts
 pub mod LastingPeers
 pub mod LastingRows
 pub mod LastingRuns

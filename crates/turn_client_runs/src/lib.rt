@@ -46,7 +46,8 @@ pub use cut::{
 pub use granted::grants_have_replies;
 pub use handshake::{a_handshake_succeeds, handshakes_succeed};
 pub use lasting::{
-    a_relay_stays_up, grants_last_while_the_server_answers, thousands_of_peers_stay_up,
+    a_burst_costs_no_grant, a_relay_stays_up, grants_last_while_the_server_answers,
+    thousands_of_peers_stay_up,
 };
 pub use numbers::numbers_stay_distinct;
 pub use offers::bound_connections_have_their_offers;
