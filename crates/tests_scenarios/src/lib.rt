@@ -28,6 +28,8 @@ mod gathered;
 #[cfg(test)]
 mod given_up;
 #[cfg(test)]
+mod long_burst;
+#[cfg(test)]
 mod looped;
 #[cfg(test)]
 mod memory;

@@ -30,6 +30,7 @@ pub mod InOrderSteps
 pub mod InputsOfRuns
 pub mod LastingAgain
 pub mod LastingBegun
+pub mod LastingBurstLemmas
 pub mod LastingCalls
 pub mod LastingCounts
 pub mod LastingEffects
@@ -61,6 +62,7 @@ pub mod MadeLemmas
 pub mod OfferCalls
 pub mod OfferMessages
 pub mod OfferRuns
+pub mod PacedLemmas
 pub mod PeerLemmas
 pub mod PieceLemmas
 pub mod PiecesLemmas
@@ -87,6 +89,7 @@ pub mod RunCutLemmas
 pub mod RunEvents
 pub mod RunGrants
 pub mod RunLemmas
+pub mod SendTimeLemmas
 pub mod SentCalls
 pub mod SentQueues
 pub mod SentRuns

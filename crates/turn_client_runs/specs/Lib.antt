@@ -15,6 +15,7 @@ pub mod InOrder
 pub mod InPieces
 pub mod Inputs
 pub mod Lasting
+pub mod LastingBursts
 pub mod LastingPeers
 pub mod LastingRows
 pub mod LastingRuns
@@ -22,6 +23,7 @@ pub mod Late
 pub mod LateRows
 pub mod Offers
 pub mod OnTime
+pub mod Paced
 pub mod Peers
 pub mod Processed
 pub mod Promises

@@ -3,6 +3,7 @@
 ghost use Rattle.turn_client_runs.specs.InPieces.{PacketsAreEnough};
 ghost use Rattle.turn_client_runs.specs.Late.{GrantedAreAnswered, OnTimeIsLateByNone};
 ghost use Rattle.turn_client_runs.specs.LastingRuns.{GrantsLastBehind};
+ghost use Rattle.turn_client_runs.specs.LastingBursts.{BurstsCostNothing, QueuedAreNotExtra};
 ghost use Rattle.turn_client_runs.specs.LastingPeers.{HasRoomAt5Ms, HasRoomLateAt5Ms, PeersLast, PeersLastFarAhead};
 ghost use Rattle.turn_client_runs.specs.CutRelayRows.{AskedRelayStaysUp, CutRelayStaysUp};
 ghost use Rattle.turn_client_runs.specs.LastingRows.{RelayStaysUp};
@@ -86,4 +87,15 @@ pub fn thousands_of_peers_stay_up()
     ensures room_late { HasRoomLateAt5Ms }
     ensures last { PeersLast }
     ensures last_far_ahead { PeersLastFarAhead }
+{}
+
+/// If requests are timed from their first copies, the room that `grants_last_while_the_server_answers` needs has no place for the copies of
+/// a burst that have not left: none of them is retransmitted, so none is an extra packet (`queued`). A client so set over UDP, with
+/// an allocation, ten permissions and a cadence of 5 ms, keeps each of them that it does not let go in every run in which up to 3,000
+/// permissions more are requested, also all at one time, which takes 15 s, each request is answered within 20 s, and at most
+/// 1,000 packets are extra; the other premises are those of that law (`lasts`). Timed from their calls, those that have not left
+/// after 500 ms leave as retransmissions, and are extra packets.
+pub fn a_burst_costs_no_grant()
+    ensures queued { QueuedAreNotExtra }
+    ensures lasts { BurstsCostNothing }
 {}

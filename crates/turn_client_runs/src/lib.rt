@@ -25,6 +25,7 @@ mod lasting;
 mod numbers;
 mod offers;
 mod order;
+mod paced;
 mod peers;
 mod promises;
 mod replies;
@@ -45,11 +46,13 @@ pub use cut::{
 pub use granted::grants_have_replies;
 pub use handshake::{a_handshake_succeeds, handshakes_succeed};
 pub use lasting::{
-    a_relay_stays_up, grants_last_while_the_server_answers, thousands_of_peers_stay_up,
+    a_burst_costs_no_grant, a_relay_stays_up, grants_last_while_the_server_answers,
+    thousands_of_peers_stay_up,
 };
 pub use numbers::numbers_stay_distinct;
 pub use offers::bound_connections_have_their_offers;
 pub use order::{inputs_are_worked, inputs_follow_each_other};
+pub use paced::first_copies_are_paced;
 pub use peers::only_permitted_is_received;
 pub use promises::runs_keep_their_promises;
 pub use replies::replies_count_once_in_runs;

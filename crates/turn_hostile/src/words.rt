@@ -131,7 +131,7 @@ pub fn permissions_words(
     format!(in alloc; "permissions {transport} {relayed}")
 }
 
-/// The head of a trace of a client of this kind, with these credentials and this seed.
+/// The head of a trace of a client of this kind, with these credentials and this seed, and with these words at its end.
 ///
 /// # Errors
 ///
@@ -142,6 +142,7 @@ pub fn head_words(
     allocation: TransportType,
     credentials: (&[u8], &[u8]),
     seed: &[u8],
+    timing: &str,
 ) -> Result<String, AllocError> {
     let (transport, allocation) = (transport_word(kind.transport), transport_word(allocation));
     let (from, to) = (Address(local()), Address(server()));
@@ -149,7 +150,7 @@ pub fn head_words(
     let (user, password) = (Bytes(credentials.0), Bytes(credentials.1));
     let seed = Bytes(seed);
     format!(in alloc;
-        "{transport} {from} {to} {allocation} {families} sha1 auto {user} {password} {seed}"
+        "{transport} {from} {to} {allocation} {families} sha1 auto {user} {password} {seed}{timing}"
     )
 }
 

@@ -15,7 +15,7 @@ import { METHOD, idText, keyOf } from "./reasons.js";
  *     took: number }} Asked
  */
 
-/** So many requests wait to be sent at a time: a pause lies between two of them, and refreshes wait behind all of them. */
+/** So many requests wait to be sent at a time, so that few carry an outdated nonce, and closing waits for few. */
 const MOST_UNSENT = 8;
 /** So many requests are remembered, with what was answered: more than a client has permissions and channels. */
 const MOST_REMEMBERED = 16_384;

@@ -54,6 +54,7 @@ class Run:
     families: list
     user: bytes
     password: bytes
+    timed_from_send: bool
     calls: list
 
     def last_open(self):
@@ -68,7 +69,8 @@ def run_of(lines):
         words = lines[number].split(" ")
         calls.append(Call(number, int(words[0]), words[1:], lines[number + 1].split(" ")))
     ends = address_in(head[1]), address_in(head[2])
-    return Run(head[0], *ends, head[3], head[4].split(","), bytes_in(head[7]), bytes_in(head[8]), calls)
+    is_timed = head[-1] == "timed_from_send"
+    return Run(head[0], *ends, head[3], head[4].split(","), bytes_in(head[7]), bytes_in(head[8]), is_timed, calls)
 
 
 def runs_in(text):

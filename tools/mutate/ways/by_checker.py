@@ -22,6 +22,8 @@ RIGHT = "right"
 PROGRAM = TOP / "crates/turn_hostile/out/turn_hostile"
 # A run that is made unproved may take long where other work is under way.
 SECONDS = "600"
+# The runs of this seed and greater ones have requests that are timed from their first copies.
+FIRST_TIMED_FROM_SEND = 1_000
 
 # A seed, and the lines of its run.
 Text = Tuple[int, str]
@@ -92,7 +94,7 @@ def parts_of(lines: Iterable[str]) -> Iterator[Text]:
         yield seed, "".join(text)
 
 
-def printed(room: pathlib.Path, seeds: range) -> Texts:
+def printed(room: pathlib.Path, seeds: List[int]) -> Texts:
     """Yields each seed and the lines of its run as soon as that has ended, as the program prints them that is built unproved. It
     is ended with this generator, so that nothing runs which nobody reads."""
     with tempfile.TemporaryDirectory(prefix="machine-cases-") as cases, tempfile.TemporaryFile("w+", errors="replace") as said:
@@ -145,15 +147,23 @@ def judge(machine: Edit, modules: Dict[str, Any], texts: Iterable[Text]) -> Tupl
     return False, f"NOT SEEN by the checker of {machine.promise} in {count} runs", last
 
 
+def seeds_for(machine: Edit, runs: int) -> List[int]:
+    """The seeds of so many runs, of such as can show what the machine does wrong: of both kinds for the right machine."""
+    timed = list(range(FIRST_TIMED_FROM_SEND, FIRST_TIMED_FROM_SEND + runs))
+    if isinstance(machine, Right):
+        return [*range(runs), *timed]
+    return timed if machine.promise == "paced" else list(range(runs))
+
+
 def tried(machine: Edit, modules: Dict[str, Any], runs: int) -> Tuple[bool, str, Optional[Text]]:
     if isinstance(machine, Right) and PROGRAM.exists():
-        return judge(machine, modules, printed_by(PROGRAM, range(runs)))
+        return judge(machine, modules, printed_by(PROGRAM, seeds_for(machine, runs)))
     with tempfile.TemporaryDirectory(prefix="machine-") as folder:
         room = pathlib.Path(folder)
         copied(room)
         if not isinstance(machine, Right):
             put(room, machine.texts(room)[1])
-        with contextlib.closing(printed(room, range(runs))) as texts:
+        with contextlib.closing(printed(room, seeds_for(machine, runs))) as texts:
             return judge(machine, modules, texts)
 
 

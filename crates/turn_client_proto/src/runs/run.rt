@@ -11,6 +11,7 @@ ghost use Rattle.turn_client_runs.specs.Promises.{NumbersAreDistinct, RealmIsAns
 ghost use Rattle.turn_client_runs.specs.Events.{EventsHaveCauses};
 ghost use Rattle.turn_client_runs.specs.LastingRuns.{GrantsLastInRuns};
 ghost use Rattle.turn_client_runs.specs.Offers.{BoundAreOffered};
+ghost use Rattle.turn_client_runs.specs.Paced.{RequestsArePaced};
 ghost use Rattle.turn_client_runs.specs.Sent.{PacketsGoOut};
 ghost use Rattle.turn_client_runs.specs.Short.{StreamsAreShort};
 ghost use Rattle.turn_client_runs.specs.Sleeps.{SleepsThroughNothing};
@@ -73,6 +74,11 @@ pub struct Replayed {
 ///   client's own. What `send_to` gives is for the peer that was named: over its bound data connection, in a
 ///   ChannelData message of its active channel, or in a Send indication with its address (RFC 8656, sections 11.1
 ///   and 12.5).
+/// - `paced`: if requests are timed from their first copies (`set_requests_timed_from_send`), each packet of `poll_transmit` is a
+///   reply to a request of the server, or retransmits an outstanding request of which a copy was given, or the pause
+///   (`request_cadence`) after each other packet but replies is over, unless a call after that one was made at an earlier time. So no
+///   first copy leaves within the pause, nor as a retransmission. And no request times out of which no copy was given (RFC
+///   8489, section 6.2.1).
 /// - `events`: each event that `poll_event` returns has its cause in an earlier call, and has waited since. What
 ///   it reports as created was granted by a signed success to an own request for it. What it reports as failed
 ///   was refused by a signed reply, timed out or expired at a `poll`, or ended with the client; or a message of
@@ -129,6 +135,7 @@ pub fn replay(
     ensures processed { CallsProcessInputs (initial transport local remote config seed) calls.now }
     ensures order { InputsFollow (initial transport local remote config seed) calls.now }
     ensures sent { PacketsGoOut (initial transport local remote config seed) calls.now }
+    ensures paced { RequestsArePaced (initial transport local remote config seed) calls.now }
     ensures events { EventsHaveCauses (initial transport local remote config seed) calls.now }
     ensures once { CausesAreReportedOnce (initial transport local remote config seed) calls.now }
     ensures short { StreamsAreShort (initial transport local remote config seed) calls.now }
