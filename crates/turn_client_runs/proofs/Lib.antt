@@ -1,6 +1,7 @@
 pub mod AddressEdits
 pub mod AddressInputs
 pub mod AllStepsLemmas
+pub mod AloneLemmas
 pub mod AppendLemmas
 pub mod AskedFamilies
 mod AskedRelayLemmas
@@ -87,6 +88,7 @@ pub mod RunCutLemmas
 pub mod RunEvents
 pub mod RunGrants
 pub mod RunLemmas
+pub mod SendsRuns
 pub mod SentCalls
 pub mod SentQueues
 pub mod SentRuns

@@ -31,6 +31,8 @@ pub mod Replies
 pub mod Reported
 pub mod ReportedRows
 pub mod Room
+pub mod Sends
+pub mod SendsRows
 pub mod Sent
 pub mod SentRows
 pub mod Server

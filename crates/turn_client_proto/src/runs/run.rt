@@ -11,6 +11,7 @@ ghost use Rattle.turn_client_runs.specs.Promises.{NumbersAreDistinct, RealmIsAns
 ghost use Rattle.turn_client_runs.specs.Events.{EventsHaveCauses};
 ghost use Rattle.turn_client_runs.specs.LastingRuns.{GrantsLastInRuns};
 ghost use Rattle.turn_client_runs.specs.Offers.{BoundAreOffered};
+ghost use Rattle.turn_client_runs.specs.Sends.{ReachablePeersAreSentTo};
 ghost use Rattle.turn_client_runs.specs.Sent.{PacketsGoOut};
 ghost use Rattle.turn_client_runs.specs.Short.{StreamsAreShort};
 ghost use Rattle.turn_client_runs.specs.Sleeps.{SleepsThroughNothing};
@@ -73,6 +74,10 @@ pub struct Replayed {
 ///   client's own. What `send_to` gives is for the peer that was named: over its bound data connection, in a
 ///   ChannelData message of its active channel, or in a Send indication with its address (RFC 8656, sections 11.1
 ///   and 12.5).
+/// - `sends`: `send_to` gives such a packet, with exactly these data, while an allocation relays to the peer's IP address over
+///   the transport, is not marked as expired, and the IP address has an active permission, over TCP also a bound data
+///   connection. Each refusal is true. It changes no more than the next transaction ID. `have_permission` is true
+///   of exactly these IP addresses.
 /// - `events`: each event that `poll_event` returns has its cause in an earlier call, and has waited since. What
 ///   it reports as created was granted by a signed success to an own request for it. What it reports as failed
 ///   was refused by a signed reply, timed out or expired at a `poll`, or ended with the client; or a message of
@@ -129,6 +134,7 @@ pub fn replay(
     ensures processed { CallsProcessInputs (initial transport local remote config seed) calls.now }
     ensures order { InputsFollow (initial transport local remote config seed) calls.now }
     ensures sent { PacketsGoOut (initial transport local remote config seed) calls.now }
+    ensures sends { ReachablePeersAreSentTo (initial transport local remote config seed) calls.now }
     ensures events { EventsHaveCauses (initial transport local remote config seed) calls.now }
     ensures once { CausesAreReportedOnce (initial transport local remote config seed) calls.now }
     ensures short { StreamsAreShort (initial transport local remote config seed) calls.now }

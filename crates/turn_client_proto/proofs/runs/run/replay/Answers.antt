@@ -1,6 +1,7 @@
 use Rattle.turn_client_runs.proofs.PromiseLemmas.{run-bound, run-cuts, run-events, run-few, run-granted, run-hears, run-held, run-lasts}
 use Rattle.turn_client_runs.proofs.PromiseLemmas.{run-numbers, run-offers, run-order, run-processed, run-realm, run-replies, run-sent, run-short}
 use Rattle.turn_client_runs.proofs.ReportedRuns.{causes-reported-once}
+use Rattle.turn_client_runs.proofs.SendsRuns.{run-sends_to}
 use Rattle.turn_client_api.specs.State.{initial}
 use Rattle.turn_client_proto.proofs.DeliveredLemmas.{gives-let-in}
 use Rattle.turn_client_proto.proofs.RunLemmas.{timely}
@@ -46,6 +47,9 @@ returns-clause-order c = run-order c.args.transport c.args.local c.args.remote c
 
 pub returns-clause-sent : goal.returns-clause-sent
 returns-clause-sent c = run-sent c.args.transport c.args.local c.args.remote c.args.config c.args.seed c.args.calls.now
+
+pub returns-clause-sends : goal.returns-clause-sends
+returns-clause-sends c = run-sends_to c.args.transport c.args.local c.args.remote c.args.config c.args.seed c.args.calls.now
 
 pub returns-clause-events : goal.returns-clause-events
 returns-clause-events c = run-events c.args.transport c.args.local c.args.remote c.args.config c.args.seed c.args.calls.now
