@@ -10,6 +10,8 @@ pub mod AskedPeers
 pub mod BoundLemmas
 pub mod BusyLemmas
 pub mod CallGrants
+pub mod CalmLemmas
+pub mod CalmRuns
 pub mod ChallengeLemmas
 pub mod ComingLemmas
 pub mod CutRelayLemmas

@@ -1,5 +1,7 @@
 pub mod Bound
 pub mod Busy
+pub mod Calm
+pub mod CalmRows
 pub mod Challenges
 pub mod Cut
 pub mod CutRelayRows

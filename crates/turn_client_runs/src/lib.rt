@@ -17,6 +17,7 @@
 
 mod bound;
 mod busy;
+mod calm;
 mod challenges;
 mod cut;
 mod granted;
@@ -38,6 +39,7 @@ mod sleeps;
 
 pub use bound::{bound_connections_have_their_success, bound_streams_have_their_success};
 pub use busy::without_waits_a_client_is_busy_for_ever;
+pub use calm::{traffic_is_calm, traffic_is_worked};
 pub use challenges::{few_challenges_are_answered, realm_stays_in_runs};
 pub use cut::{
     polled_clients_are_quiet, runs_give_the_same_for_any_cut, streams_are_worked,
