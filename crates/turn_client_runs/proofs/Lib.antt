@@ -1,6 +1,7 @@
 pub mod AddressEdits
 pub mod AddressInputs
 pub mod AllStepsLemmas
+pub mod AloneLemmas
 pub mod AppendLemmas
 pub mod AskedFamilies
 mod AskedRelayLemmas
@@ -9,6 +10,8 @@ pub mod AskedPeers
 pub mod BoundLemmas
 pub mod BusyLemmas
 pub mod CallGrants
+pub mod CalmLemmas
+pub mod CalmRuns
 pub mod ChallengeLemmas
 pub mod ComingLemmas
 pub mod CutRelayLemmas
@@ -90,6 +93,7 @@ pub mod RunEvents
 pub mod RunGrants
 pub mod RunLemmas
 pub mod SendTimeLemmas
+pub mod SendsRuns
 pub mod SentCalls
 pub mod SentQueues
 pub mod SentRuns

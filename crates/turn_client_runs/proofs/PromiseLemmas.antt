@@ -91,7 +91,7 @@ module _ (transport : TransportType) (local remote : SocketAddr) (config : Confi
   run-held earlier later e = held-from transport local remote config seed earlier
 
   pub run-processed : CallsProcessInputs first calls
-  run-processed = calls-process first calls
+  run-processed = calls-process transport local remote config seed calls
 
   pub run-order : InputsFollow first calls
   run-order = inputs-follow transport local remote config seed calls

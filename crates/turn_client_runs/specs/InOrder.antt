@@ -1,8 +1,9 @@
 -- The inputs out of a stream are all that arrives for it, in order (RFC 8489, section 6.2.2; RFC 8656, section
 -- 12.5; RFC 6062, section 4.3).
-use Rattle.std.specs.Prelude.{◌≡◌, ◌≢◌, if◌then◌else◌, Bool, false, ℕ, List, [], ◌∷◌, ◌++◌, Some, ⊤, Ok}
+use Rattle.std.specs.Prelude.{◌≡◌, ◌≢◌, ◌⊎◌, if◌then◌else◌, Bool, true, false, ℕ, List, [], ◌∷◌, ◌++◌, Some, ⊤, Ok}
 use Rattle.std.specs.Option.{option_map_or}
 use Rattle.std.specs.declared.net.socket_addr.SocketAddr.{SocketAddr}
+use Rattle.turn_types.specs.Frames.{begins_no_frame}
 use Rattle.turn_agent.specs.Agent.{same_address}
 use Rattle.turn_client_api.specs.State.{State}
 use Rattle.turn_client_api.specs.declared.call.Call.{Call}
@@ -41,12 +42,18 @@ abbrev pub OpensNone : SocketAddr → State → List Call → Type 0
 OpensNone local s [] = ⊤
 OpensNone local s (call ∷ calls) = (Opens local call s → ⊥) × OpensNone local (state_after call s) calls
 
+-- the stream at this local address is broken
+abbrev pub IsBrokenAt : SocketAddr → State → Type 0
+IsBrokenAt local s = (x : Stream) × (stream_at local s ≡ Some x) × (x.mode ≡ Broken)
+
 -- What the stream held before these calls, and then what arrived for it in them, is what the inputs out of it
--- took, in order, and then the rest. The stream holds the rest, unless it is broken, and dropped it.
+-- took, in order, and then the rest. The stream holds the rest, unless it is broken, and dropped it: then it was broken
+-- before these calls, or no frame begins as the rest does.
 pub record TakesAll (local : SocketAddr) (s : State) (calls : List Call) (stream : Stream) : Type 0 where
   pub rest : List ℕ
   pub all : held_at local s ++ pieces_for local calls s ≡ bytes_out_of local (handled_in s calls) ++ rest
   pub held : stream.mode ≢ Broken → rest ≡ stream.bytes
+  pub broken : stream.mode ≡ Broken → IsBrokenAt local s ⊎ (begins_no_frame rest ≡ true)
 
 -- this holds of each stream and of any calls of the run that follow each other, if none of them opens it
 abbrev pub InputsFollow : State → List Call → Type 0

@@ -1,5 +1,7 @@
 pub mod Bound
 pub mod Busy
+pub mod Calm
+pub mod CalmRows
 pub mod Challenges
 pub mod Cut
 pub mod CutRelayRows
@@ -33,6 +35,8 @@ pub mod Replies
 pub mod Reported
 pub mod ReportedRows
 pub mod Room
+pub mod Sends
+pub mod SendsRows
 pub mod Sent
 pub mod SentRows
 pub mod Server

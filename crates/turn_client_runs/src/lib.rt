@@ -17,6 +17,7 @@
 
 mod bound;
 mod busy;
+mod calm;
 mod challenges;
 mod cut;
 mod granted;
@@ -31,6 +32,7 @@ mod promises;
 mod replies;
 mod reported;
 mod room;
+mod sends;
 mod sent;
 mod server;
 mod silence;
@@ -38,6 +40,7 @@ mod sleeps;
 
 pub use bound::{bound_connections_have_their_success, bound_streams_have_their_success};
 pub use busy::without_waits_a_client_is_busy_for_ever;
+pub use calm::{traffic_is_calm, traffic_is_worked};
 pub use challenges::{few_challenges_are_answered, realm_stays_in_runs};
 pub use cut::{
     polled_clients_are_quiet, runs_give_the_same_for_any_cut, streams_are_worked,
@@ -58,6 +61,7 @@ pub use promises::runs_keep_their_promises;
 pub use replies::replies_count_once_in_runs;
 pub use reported::{causes_are_reported_once, events_are_counted};
 pub use room::{Load, kept_grants, longest_cadence};
+pub use sends::{reachable_peers_are_sent_to, refusals_are_worked};
 pub use sent::{packets_are_worked, packets_go_out};
 pub use server::requests_can_be_granted;
 pub use silence::silence_ends_a_client;

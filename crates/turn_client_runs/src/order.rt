@@ -12,7 +12,8 @@ ghost use Rattle.turn_client_runs.specs.SentRows.{two_frames_and_half};
 /// The inputs out of a stream of a client over TCP are the frames of all that arrives for it, in order, none
 /// twice and none left out (RFC 8489, section 6.2.2; RFC 8656, section 12.5). In any consecutive calls of which
 /// none opens the stream: what it held before them, and then what arrived for it in them, is what the inputs out
-/// of it took, and then the rest. It holds the rest, unless a byte with which no frame begins broke it. So from
+/// of it took, and then the rest. It holds the rest, unless it is broken: then it was so before them, or no frame
+/// begins as the rest does. So from
 /// the first call on for the control connection, and from its opening on for a data connection, all that
 /// arrived is taken or is still held. `only_permitted_is_received` and the others speak of these inputs.
 pub fn inputs_follow_each_other()

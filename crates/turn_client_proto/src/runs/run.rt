@@ -8,10 +8,12 @@ ghost use Rattle.turn_client_runs.specs.InOrder.{InputsFollow};
 ghost use Rattle.turn_client_runs.specs.Processed.{CallsProcessInputs};
 ghost use Rattle.turn_client_runs.specs.Promises.{AfterEach, BoundHaveSuccess, CutsAgree, FewAreAnswered, GrantsHaveReplies, DeliversOnlyPermitted, InEachPart};
 ghost use Rattle.turn_client_runs.specs.Promises.{NumbersAreDistinct, RealmIsAnswered, RealmStays, RepliesCountOnce};
+ghost use Rattle.turn_client_runs.specs.Calm.{TrafficIsCalm};
 ghost use Rattle.turn_client_runs.specs.Events.{EventsHaveCauses};
 ghost use Rattle.turn_client_runs.specs.LastingRuns.{GrantsLastInRuns};
 ghost use Rattle.turn_client_runs.specs.Offers.{BoundAreOffered};
 ghost use Rattle.turn_client_runs.specs.Paced.{RequestsArePaced};
+ghost use Rattle.turn_client_runs.specs.Sends.{ReachablePeersAreSentTo};
 ghost use Rattle.turn_client_runs.specs.Sent.{PacketsGoOut};
 ghost use Rattle.turn_client_runs.specs.Short.{StreamsAreShort};
 ghost use Rattle.turn_client_runs.specs.Sleeps.{SleepsThroughNothing};
@@ -65,10 +67,13 @@ pub struct Replayed {
 ///   answered.
 /// - `processed`: `recv` and `poll_recv` change what their inputs change, one after the other, and apart from the
 ///   bytes in the streams nothing else, or the server closed a stream. No other call activates a grant. The data
-///   of peers that a call returns is that of its inputs.
+///   of peers that a call returns is that of its inputs. A call takes a grant away only if it names it: by its kind and
+///   arguments, by a signed reply to a request for it or a message of its connection among the inputs, by the end of its
+///   stream, or, if it is a `poll`, since the grant or its allocation is over.
 /// - `order`: the inputs out of a stream are all that arrives for it, in order: what it held before any
 ///   consecutive calls, and then what arrived for it in them, is what they took out of it, and then the rest, unless one of
-///   them opens the stream. It holds the rest, unless a byte with which no frame begins broke it.
+///   them opens the stream. It holds the rest, unless it is broken: then it was so before, or the rest begins with a byte
+///   with which no frame begins.
 /// - `sent`: each packet of `poll_transmit` goes to the server. A CONNECTION_BIND goes over the data connection
 ///   that it is to bind, from the local address that the caller named (RFC 6062, section 4.3), all else from the
 ///   client's own. What `send_to` gives is for the peer that was named: over its bound data connection, in a
@@ -79,6 +84,10 @@ pub struct Replayed {
 ///   (`request_cadence`) after each other packet but replies is over, unless a call after that one was made at an earlier time. So no
 ///   first copy leaves within the pause, nor as a retransmission. And no request times out of which no copy was given (RFC
 ///   8489, section 6.2.1).
+/// - `sends`: `send_to` gives such a packet, with exactly these data, while an allocation relays to the peer's IP address over
+///   the transport, is not marked as expired, and the IP address has an active permission, over TCP also a bound data
+///   connection. Each refusal is true. It changes no more than the next transaction ID. `have_permission` is true
+///   of exactly these IP addresses.
 /// - `events`: each event that `poll_event` returns has its cause in an earlier call, and has waited since. What
 ///   it reports as created was granted by a signed success to an own request for it. What it reports as failed
 ///   was refused by a signed reply, timed out or expired at a `poll`, or ended with the client; or a message of
@@ -99,6 +108,8 @@ pub struct Replayed {
 ///   is requested is in force after the server's delay, if no call lets it go. No `poll` of that part returns that a client
 ///   with an allocation has ended (RFC 8656, sections 8, 9 and 12). The premises are those of
 ///   `grants_last_while_the_server_answers` (`behind`). In the whole run a signed success that comes ends its request.
+/// - `calm`: from a `poll` on that returned a later time, nothing is due before that time after any calls that send data to
+///   peers, receive data or ICMP reports of peers, or look; over TCP if nothing else is processed with them.
 /// - `alarm`: a caller that sleeps until the time that each `poll` returns misses no deadline, and no expiry of an
 ///   allocation, whether or not it is marked as expired.
 ///
@@ -136,11 +147,13 @@ pub fn replay(
     ensures order { InputsFollow (initial transport local remote config seed) calls.now }
     ensures sent { PacketsGoOut (initial transport local remote config seed) calls.now }
     ensures paced { RequestsArePaced (initial transport local remote config seed) calls.now }
+    ensures sends { ReachablePeersAreSentTo (initial transport local remote config seed) calls.now }
     ensures events { EventsHaveCauses (initial transport local remote config seed) calls.now }
     ensures once { CausesAreReportedOnce (initial transport local remote config seed) calls.now }
     ensures short { StreamsAreShort (initial transport local remote config seed) calls.now }
     ensures cuts { CutsAgree (initial transport local remote config seed) calls.now }
     ensures lasts { GrantsLastInRuns (initial transport local remote config seed) calls.now }
+    ensures calm { TrafficIsCalm (initial transport local remote config seed) calls.now }
     ensures alarm { SleepsThroughNothing (initial transport local remote config seed) calls.now }
 {
     make_run(alloc, transport, local, remote, config, seed, calls)

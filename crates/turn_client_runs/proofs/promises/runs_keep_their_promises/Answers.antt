@@ -1,5 +1,7 @@
 use Rattle.turn_client_runs.proofs.PromiseLemmas.{run-bound, run-cuts, run-events, run-few, run-granted, run-hears, run-held, run-lasts, run-numbers, run-offers, run-order, run-processed, run-realm}
 use Rattle.turn_client_runs.proofs.PromiseLemmas.{run-replies, run-sent, run-short}
+use Rattle.turn_client_runs.proofs.CalmRuns.{run-calm}
+use Rattle.turn_client_runs.proofs.SendsRuns.{run-sends_to}
 use Rattle.turn_client_runs.proofs.promises.runs_keep_their_promises.Goals as goal
 
 pub returns : goal.returns
@@ -16,8 +18,10 @@ returns c = record {
   processed = run-processed;
   order = run-order;
   sent = run-sent;
+  sends = run-sends_to;
   events = run-events;
   short = run-short;
   cuts = run-cuts;
   lasts = run-lasts;
+  calm = run-calm;
 }

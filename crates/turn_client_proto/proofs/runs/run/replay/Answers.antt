@@ -2,6 +2,8 @@ use Rattle.turn_client_runs.proofs.PromiseLemmas.{run-bound, run-cuts, run-event
 use Rattle.turn_client_runs.proofs.PromiseLemmas.{run-numbers, run-offers, run-order, run-processed, run-realm, run-replies, run-sent, run-short}
 use Rattle.turn_client_runs.proofs.PacedLemmas.{run-paced}
 use Rattle.turn_client_runs.proofs.ReportedRuns.{causes-reported-once}
+use Rattle.turn_client_runs.proofs.CalmRuns.{run-calm}
+use Rattle.turn_client_runs.proofs.SendsRuns.{run-sends_to}
 use Rattle.turn_client_api.specs.State.{initial}
 use Rattle.turn_client_proto.proofs.DeliveredLemmas.{gives-let-in}
 use Rattle.turn_client_proto.proofs.RunLemmas.{timely}
@@ -51,6 +53,9 @@ returns-clause-sent c = run-sent c.args.transport c.args.local c.args.remote c.a
 pub returns-clause-paced : goal.returns-clause-paced
 returns-clause-paced c = run-paced c.args.transport c.args.local c.args.remote c.args.config c.args.seed c.args.calls.now
 
+pub returns-clause-sends : goal.returns-clause-sends
+returns-clause-sends c = run-sends_to c.args.transport c.args.local c.args.remote c.args.config c.args.seed c.args.calls.now
+
 pub returns-clause-events : goal.returns-clause-events
 returns-clause-events c = run-events c.args.transport c.args.local c.args.remote c.args.config c.args.seed c.args.calls.now
 
@@ -65,6 +70,9 @@ returns-clause-cuts c = run-cuts c.args.transport c.args.local c.args.remote c.a
 
 pub returns-clause-lasts : goal.returns-clause-lasts
 returns-clause-lasts c = run-lasts c.args.transport c.args.local c.args.remote c.args.config c.args.seed c.args.calls.now
+
+pub returns-clause-calm : goal.returns-clause-calm
+returns-clause-calm c = run-calm c.args.transport c.args.local c.args.remote c.args.config c.args.seed c.args.calls.now
 
 pub returns-clause-alarm : goal.returns-clause-alarm
 returns-clause-alarm c = timely c.args.transport c.args.local c.args.remote c.args.config c.args.seed c.args.calls.now c.requires.callable
