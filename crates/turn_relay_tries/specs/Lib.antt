@@ -1,0 +1,4 @@
+pub mod Attempts
+pub mod Backoff
+pub mod Failures
+pub mod Tries

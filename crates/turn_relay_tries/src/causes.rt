@@ -1,0 +1,20 @@
+//! Why a relay has no address.
+
+use std::time::Duration;
+use turn_session_book::causes::Why;
+use turn_session_book::tags::Tag;
+
+/// Why a try failed, a relay went down, or is over.
+#[derive(Clone, Copy, Debug, PartialEq, Eq)]
+pub enum Cause {
+    /// The session with the server ended.
+    Life(Why),
+    /// There were no credentials: the caller's number of its error.
+    NoCredentials(Tag),
+    /// The server's name has no address: the caller's number of its error.
+    NotResolved(Tag),
+    /// There was no connection to any address of the server.
+    NotConnected,
+    /// The try lasted for this long, and there was no relayed address.
+    TooSlow(Duration),
+}
