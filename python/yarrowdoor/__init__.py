@@ -9,8 +9,8 @@
 A `Relay` comes back after an outage. `create_datagram_endpoint`, `open_connection` and `start_server` give over a relay what
 asyncio gives over sockets, and `sync` is for scripts and threads.
 
-The library is proved, where `PROOF` in the package says so; this package is tested, and not proved. The README says how to
-begin. In a wheel it is the description: `importlib.metadata.metadata("yarrowdoor").get_payload()`.
+The library is proved if `PROOF` in the package says so; this package is tested, not proved. The README says how to begin. In a
+wheel it is the description: `importlib.metadata.metadata("yarrowdoor").get_payload()`.
 """
 from typing import TYPE_CHECKING
 
