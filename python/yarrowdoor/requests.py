@@ -13,8 +13,8 @@ from .tasks import Tasks
 
 __all__ = ["Made", "Requests", "settle"]
 
-# So many requests wait to be sent at a time, so that few carry a nonce which is outdated when they leave, since each is signed as it
-# is made, and a deletion waits for few (docs/REAL-SERVERS.md in the repository). Refreshes do not need it: they leave first. How many
+# So many requests wait to be sent at a time. Each is signed as it is made, so that few carry a nonce which is outdated when they
+# leave, and a deletion waits for few (docs/REAL-SERVERS.md in the repository). Refreshes do not need it: they leave first. How many
 # wait for an answer is not limited.
 MAX_UNSENT = 8
 
