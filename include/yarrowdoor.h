@@ -561,10 +561,10 @@ YARROWDOOR_INLINE enum yarrowdoor_kind yarrowdoor_poll(yarrowdoor *client, uint6
    out, and refreshes that are due leave before what is queued. Without it they wait behind that, and the waits of a request
    run from the call that makes it: over UDP, those that have not left after 500 ms all leave then, without a pause, and once
    more in their turn, even if they are answered or have failed by then. Either way what was queued leaves also if nothing
-   needs it any more, as when its allocation is gone. YARROWDOOR_PACKET:
-   send the answer->len bytes in the buffer, and the answer->left ones behind them that yarrowdoor_read gives, over UDP as
-   one datagram. 1,500 bytes hold the packets of usual servers, and YARROWDOOR_MAX_PACKET each packet. YARROWDOOR_NOTHING:
-   none is due. YARROWDOOR_UNREAD_BYTES: read the rest of an earlier answer first. */
+   needs it any more, as when its allocation is gone. YARROWDOOR_PACKET: send the answer->len bytes in the buffer, and the
+   answer->left ones behind them that yarrowdoor_read gives, over UDP as one datagram. 1,500 bytes hold the packets of
+   usual servers, and YARROWDOOR_MAX_PACKET each packet. YARROWDOOR_NOTHING: none is due. YARROWDOOR_UNREAD_BYTES: read the
+   rest of an earlier answer first. */
 YARROWDOOR_INLINE enum yarrowdoor_kind yarrowdoor_poll_transmit(yarrowdoor *client, uint64_t now, uint8_t *buffer,
                                                                 size_t buffer_len, yarrowdoor_answer *answer);
 

@@ -13,9 +13,9 @@ from .tasks import Tasks
 
 __all__ = ["Made", "Requests", "settle"]
 
-# So many requests wait to be sent at a time. No refresh needs that, since it leaves before what waits; but a request is signed as it
-# is made, so that few carry a nonce which is outdated when they leave, and a deletion leaves behind few
-# (docs/REAL-SERVERS.md in the repository). How many wait for an answer is not limited.
+# So many requests wait to be sent at a time. Each is signed as it is made, so that few carry a nonce which is outdated when they
+# leave, and a deletion waits for few (docs/REAL-SERVERS.md in the repository). Refreshes do not need it: they leave first. How many
+# wait for an answer is not limited.
 MAX_UNSENT = 8
 
 

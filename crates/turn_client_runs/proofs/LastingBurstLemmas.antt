@@ -1,8 +1,8 @@
 -- A client with ten permissions begins as no grant is lost though 3,000 more are requested at one time.
-use Rattle.turn_client_laws.proofs.Common.{◌≡◌, ◌∙◌, ◌+◌, ◌-◌, ◌^◌, ◌<◌, ◌≤◌, ℕ, true, false, List, [], ◌∷◌, arith, inl, inr, length, map, refl, subst, sym, All, AllByRecursion, IsDistinct, IpAddr}
-use Rattle.turn_client_laws.proofs.Common.{Some, and_parts, leb, leb-true, ltb}
-use Rattle.turn_client_laws.proofs.Machine.{IPV4, HasAllocation, family_of_ip, same_ip, new_allocation, due, is_due, resends_of, transaction_timeout, timers_of, agent_of, State, Grant, Allocation, Channel}
-use Rattle.turn_client_laws.proofs.Machine.{Permission, Transaction, Has, all-has, has-all, has-found}
+use Rattle.turn_client_laws.proofs.Common.{◌≡◌, ◌∙◌, ◌+◌, ◌-◌, ◌^◌, ◌≤◌, false, List, [], ◌∷◌, arith, inl, inr, length, map, refl, subst, sym, All, AllByRecursion, IsDistinct, IpAddr}
+use Rattle.turn_client_laws.proofs.Common.{and_parts, leb, leb-true, ltb}
+use Rattle.turn_client_laws.proofs.Machine.{IPV4, HasAllocation, family_of_ip, same_ip, new_allocation, is_due, resends_of, transaction_timeout, timers_of, State, Grant, Channel}
+use Rattle.turn_client_laws.proofs.Machine.{Permission, Has, all-has, has-all, has-found}
 use Rattle.turn_client_laws.proofs.Laws.{is_double, relayed_v4, contains-has, has-mapped}
 use Rattle.turn_client_runs.specs.History.{no_history, was_let_go}
 use Rattle.turn_client_runs.specs.Lasting.{HasRoom, IsInForce, IsSteady, ahead_of, expiry_of}

@@ -1,16 +1,16 @@
 -- Requests that are timed from their first copies leave in their turn.
-use Rattle.turn_client_laws.proofs.Common.{◌≡◌, ◌⊎◌, ◌∙◌, ◌++◌, ◌+◌, ◌-◌, ◌^◌, ◌<◌, ◌≤◌, ◌&&◌, ℕ, Bool, true, false, cond, eqb, leb, List, [], ◌∷◌, Option, Some, None, refl, subst, sym, ap, inl, inr}
-use Rattle.turn_client_laws.proofs.Common.{arith, find, min, is_none, slice_get, filter_map, flat_map, list_any, drop, nat_le, All, All-head, All-tail, Contains, append_assoc, append-nil, and_parts}
-use Rattle.turn_client_laws.proofs.Common.{option_map_or, eq-eqb, eqb-true, leb-true, cond_some, none-some, ltb, ltb-false, lt-leb, IpAddr, SocketAddr}
-use Rattle.turn_client_laws.proofs.Machine.{id_of, header_fault_of, Transmit, TransportType, Timers, resends_of, due, is_due, is_timed_out, timed_out_transaction, transaction_timeout, resent, sent_again, waiting_from, waits_begun}
+use Rattle.turn_client_laws.proofs.Common.{◌≡◌, ◌⊎◌, ◌∙◌, ◌++◌, ◌+◌, ◌-◌, ◌^◌, ◌≤◌, ◌&&◌, ℕ, Bool, true, false, cond, eqb, leb, List, [], ◌∷◌, Option, Some, None, refl, subst, sym, ap, inl, inr}
+use Rattle.turn_client_laws.proofs.Common.{arith, min, is_none, slice_get, filter_map, flat_map, list_any, drop, nat_le, All, All-head, All-tail, Contains, append_assoc, append-nil, and_parts}
+use Rattle.turn_client_laws.proofs.Common.{option_map_or, eqb-true, leb-true, cond_some, ltb, ltb-false}
+use Rattle.turn_client_laws.proofs.Machine.{id_of, header_fault_of, Transmit, TransportType, Timers, resends_of, due, is_due, is_timed_out, transaction_timeout, resent, sent_again, waiting_from, waits_begun}
 use Rattle.turn_client_laws.proofs.Machine.{first_sent, Transaction, Config, timers_of, State, agent_of, later_by, initial, Call, Delete, CreatePermission, BindChannel, TcpConnect, AllocatedTcpSocket}
 use Rattle.turn_client_laws.proofs.Machine.{TcpClosed, SendTo, Recv, PollRecv, Poll, PollTransmit, PollEvent, RelayedAddresses, Permissions, HavePermission, ProtocolError, SetPermissionKept, SetChannelKept}
-use Rattle.turn_client_laws.proofs.Machine.{Phase, New, Requesting, Authenticating, Allocated, Closed, Purpose, Queued, is_paused, pause_end, keepalive_times, allocations, waits_from, fresh_id, first_allocate}
-use Rattle.turn_client_laws.proofs.Machine.{request_for, to_server, state_after, state_after_all, idle_step, keepalive_step, next_queued, next_transmit, queue_step, front_sent, id_in_header, refreshes_in, reply_in, reply_step}
+use Rattle.turn_client_laws.proofs.Machine.{Phase, New, Requesting, Allocated, Purpose, Queued, is_paused, pause_end, keepalive_times, allocations, waits_from, fresh_id, first_allocate}
+use Rattle.turn_client_laws.proofs.Machine.{request_for, to_server, state_after, state_after_all, idle_step, keepalive_step, next_queued, queue_step, front_sent, id_in_header, refreshes_in, reply_in, reply_step}
 use Rattle.turn_client_laws.proofs.Machine.{sent, sent_at_once, transmit_step, Has, has-append, has-found, first-has, map-has}
 use Rattle.turn_client_laws.specs.LawsRequests as L
-use Rattle.turn_client_laws.proofs.Laws.{AsksFor, IsRequestOf, IsMadeAs, Input, processed, IsDoneBy, by_found, by_test, call-configured, message-configured, has-mapped, has-contains, contains-has, requests-made}
-use Rattle.turn_client_laws.proofs.Laws.{before-kept, edits-IsKept, fixed-all-edits, IsKept}
+use Rattle.turn_client_laws.proofs.Laws.{AsksFor, IsRequestOf, IsMadeAs, Input, IsDoneBy, by_found, by_test, has-mapped, has-contains, contains-has, requests-made}
+use Rattle.turn_client_laws.proofs.Laws.{before-kept, edits-IsKept, fixed-all-edits}
 use Rattle.turn_client_runs.specs.Holds.{HoldsOfRuns}
 use Rattle.turn_client_runs.specs.OnTime.{time_of}
 use Rattle.turn_client_runs.specs.Paced.{HasLeft, IsApart, IsReply, IsRequestUnder, IsSentAgain, RequestsArePaced, RequestsLeaveInTurn, TimesOutOnceSent}

@@ -1,16 +1,16 @@
 -- Which calls change when a client last sent a packet: `poll_transmit` alone.
-use Rattle.turn_client_laws.proofs.Common.{◌≡◌, ◌∙◌, ℕ, Bool, true, false, cond, List, [], ◌∷◌, Option, Some, None, Result, Ok, Err, refl, fold, find, reverse, leb, eqb, length, is_some, ◌&&◌, ◌||◌, ⊤, not, list_any, filter_map, socket_ip, option_map_or, IpAddr, SocketAddr}
-use Rattle.turn_client_laws.proofs.Machine.{id_of, AddressFamily, Challenge, State, Phase, New, Requesting, Authenticating, Allocated, Closed, Grant, Allocation, Permission, Channel, DataConnection, Relay}
-use Rattle.turn_client_laws.proofs.Machine.{Progress, Pending, Active, Origin, ServerRequest, Purpose, ForAllocation, ForRefresh, ForPermission, ForChannel, ForConnect, ForBind, allocations, channel_at, first_in}
-use Rattle.turn_client_laws.proofs.Machine.{permission_state, purposes_of, is_of, connection_id_in, lifetime_in, Judgement, Unrelated, Challenged, Fatal, ConnectionAttempt, SignedRequest, SignedSuccess}
-use Rattle.turn_client_laws.proofs.Machine.{SignedError, judgement_of, bind_judgement, is_bind_of, closed, channel_answered, connect_answered, delete_answered, effect, permission_answered}
-use Rattle.turn_client_laws.proofs.Machine.{permission_answered_for, prolonged, refreshed, allocate_denied, allocate_granted, retried, Outcome, Handled, Ignored, answered_purposes, challenge_step, message_step}
-use Rattle.turn_client_laws.proofs.Machine.{response_step, signed_step, wrong_step, attempt_indicated, attempt_requested, bind_again, bind_answered, bind_step, connection_at, connection_gone}
-use Rattle.turn_client_laws.proofs.Machine.{in_allocation, create_permission_step, permission_step, bind_channel_step, bound_by, channel_step, tcp_connect_step, connect_step, allocated_tcp_socket_step}
+use Rattle.turn_client_laws.proofs.Common.{◌≡◌, ◌∙◌, ℕ, Bool, true, false, cond, List, [], ◌∷◌, Option, Some, None, Result, refl, fold, find, reverse, leb, eqb, length, is_some, ◌&&◌, ◌||◌, ⊤, not, list_any, filter_map, socket_ip, option_map_or, IpAddr, SocketAddr}
+use Rattle.turn_client_laws.proofs.Machine.{id_of, AddressFamily, Challenge, State, Phase, New, Requesting, Authenticating, Allocated, Closed, Grant, Channel, DataConnection, Relay}
+use Rattle.turn_client_laws.proofs.Machine.{Progress, Pending, Active, Origin, ServerRequest, Purpose, ForRefresh, ForPermission, ForChannel, ForConnect, allocations, channel_at, first_in}
+use Rattle.turn_client_laws.proofs.Machine.{permission_state, purposes_of, is_of, connection_id_in, lifetime_in, Judgement, Challenged, Fatal, ConnectionAttempt, SignedRequest, SignedSuccess}
+use Rattle.turn_client_laws.proofs.Machine.{SignedError, judgement_of, bind_judgement, is_bind_of, closed, channel_answered, connect_answered, effect, permission_answered}
+use Rattle.turn_client_laws.proofs.Machine.{permission_answered_for, prolonged, refreshed, allocate_denied, allocate_granted, retried, Ignored, answered_purposes, challenge_step, message_step}
+use Rattle.turn_client_laws.proofs.Machine.{response_step, signed_step, wrong_step, attempt_indicated, bind_again, bind_answered, connection_at, connection_gone}
+use Rattle.turn_client_laws.proofs.Machine.{in_allocation, permission_step, bound_by, channel_step, connect_step}
 use Rattle.turn_client_laws.proofs.Machine.{socket_step, socket_opened, socket_refused, offer_origin, find_allocation_to, channel_expired, is_expired_channel, expired_at, expired_in, timed_out_purposes}
-use Rattle.turn_client_laws.proofs.Machine.{answer_step, silent_step, timed_step, timed_out_step, poll_step, next_offer, offer_step, is_listed_for_allocation, timed_out_transaction, agent_of, expired_in-does}
+use Rattle.turn_client_laws.proofs.Machine.{answer_step, timed_step, poll_step, next_offer, is_listed_for_allocation, timed_out_transaction, agent_of, expired_in-does}
 use Rattle.turn_client_laws.proofs.Machine.{TransportType, Tcp, same_transport, same_address, is_closed, fail_all, allocated, taken_addresses, relayed_in, min_lifetime, has_code, allocation_mismatch, family_not_supported, free_number, transaction_ended, state_after, Call, Delete, CreatePermission, BindChannel, TcpConnect, AllocatedTcpSocket, TcpClosed, SendTo, Recv}
-use Rattle.turn_client_laws.proofs.Machine.{PollRecv, Poll, PollTransmit, PollEvent, RelayedAddresses, Permissions, HavePermission, ProtocolError, SetPermissionKept, SetChannelKept, Transaction}
+use Rattle.turn_client_laws.proofs.Machine.{PollRecv, Poll, PollTransmit, ProtocolError, SetPermissionKept, SetChannelKept}
 use Rattle.turn_client_laws.proofs.Machine.{is_allocated, is_in_progress, channels_to, reserved_from, has_active_permission, is_connected, is_connecting, is_control, is_local_taken, is_permission_of, is_open_to, keep_step}
 use Rattle.turn_client_api.specs.declared.error.BindChannelError.TheVariants as Bind
 use Rattle.turn_client_api.specs.declared.error.CreatePermissionError.TheVariants as Create

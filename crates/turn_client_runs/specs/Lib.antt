@@ -26,6 +26,7 @@ pub mod LateRows
 pub mod Offers
 pub mod OnTime
 pub mod Paced
+pub mod PacedRows
 pub mod Peers
 pub mod Processed
 pub mod Promises

@@ -55,7 +55,7 @@ pub use lasting::{
 pub use numbers::numbers_stay_distinct;
 pub use offers::bound_connections_have_their_offers;
 pub use order::{inputs_are_worked, inputs_follow_each_other};
-pub use paced::first_copies_are_paced;
+pub use paced::{first_copies_are_paced, first_copies_are_worked};
 pub use peers::only_permitted_is_received;
 pub use promises::runs_keep_their_promises;
 pub use replies::replies_count_once_in_runs;
