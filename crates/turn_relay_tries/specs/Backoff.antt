@@ -1,5 +1,5 @@
 -- How long lies between the tries of a relay.
-use Rattle.std.specs.Prelude.{ℕ, ◌*◌, ◌-◌, ◌/◌, ◌%◌, ◌^◌, min}
+use Rattle.std.specs.Prelude.{ℕ, ◌≤◌, ◌*◌, ◌-◌, ◌/◌, ◌%◌, ◌^◌, min}
 use Rattle.turn_relay_tries.specs.declared.backoff.Backoff.{Backoff}
 
 abbrev pub default_backoff : Backoff
@@ -20,3 +20,7 @@ drawn_wait b wait lot = wait - random_part b wait lot
 -- twice as long, up to the longest
 abbrev pub next_wait : Backoff → ℕ → ℕ
 next_wait b wait = min (min (2 * wait) (2 ^ 64 - 1)) b.longest
+
+-- of a wait is left what is not random: with a jitter of 500 thousandths half of it
+abbrev pub IsLeast : Backoff → ℕ → ℕ → Type 0
+IsLeast b wait drawn = wait * (1_000 - min b.jitter 1_000) ≤ 1_000 * drawn

@@ -1,4 +1,5 @@
 pub mod Attempts
 pub mod Backoff
 pub mod Failures
+pub mod Redirects
 pub mod Tries

@@ -1,7 +1,7 @@
 //! How long lies between the tries of a relay.
 
 ghost use Rattle.std.specs.Prelude.{◌≡◌};
-ghost use Rattle.turn_relay_tries.specs.Backoff.{default_backoff, drawn_wait, lot_of, next_wait};
+ghost use Rattle.turn_relay_tries.specs.Backoff.{IsLeast, default_backoff, drawn_wait, lot_of, next_wait};
 
 use turn_stun::transaction::TransactionId;
 
@@ -31,7 +31,8 @@ impl Backoff {
 
     /// The wait of this many nanoseconds, less its random part. The number, which decides on it, is one of the relay's own.
     pub fn drawn(self, wait: u64, number: TransactionId) -> u64
-        ensures { result ≡ drawn_wait self wait (lot_of number) }
+        ensures value { result ≡ drawn_wait self wait (lot_of number) }
+        ensures least { IsLeast self wait result }
     {
         let random = u128::from(wait) * u128::from(self.jitter.min(1_000)) * u128::from(lot_of(number)) / LOTS;
         u128::from(wait).saturating_sub(random) as u64

@@ -16,5 +16,5 @@ pub mod backoff;
 pub mod causes;
 pub mod constants;
 pub mod failures;
-
+pub mod redirects;
 pub mod tries;
