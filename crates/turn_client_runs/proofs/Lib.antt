@@ -15,6 +15,8 @@ pub mod CalmRuns
 pub mod ChallengeLemmas
 pub mod ComingLemmas
 pub mod CutRelayLemmas
+pub mod DeliveryLemmas
+pub mod DeliveryRuns
 pub mod EventCalls
 pub mod EventInputs
 pub mod EventLemmas

@@ -20,10 +20,10 @@ use Rattle.turn_client_runs.proofs.SentTexts.{first-else, indication-else, reque
 
 -- ---- what never changes of a client
 
-abbrev Stays : State → State → Type 0
+abbrev pub Stays : State → State → Type 0
 Stays s t = (t.transport ≡ s.transport) × (t.local ≡ s.local) × (t.remote ≡ s.remote) × (t.config ≡ s.config)
 
-Stays-KeepsAllEdits : KeepsAllEdits Stays
+pub Stays-KeepsAllEdits : KeepsAllEdits Stays
 Stays-KeepsAllEdits = all-phase-edits ⊤ Stays (record {
   edits = record {
     rest = λ s t. (refl, refl, refl, refl);

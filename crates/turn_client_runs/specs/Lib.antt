@@ -6,6 +6,7 @@ pub mod Challenges
 pub mod Cut
 pub mod CutRelayRows
 pub mod CutRows
+pub mod Deliveries
 pub mod Events
 pub mod Granted
 pub mod Handshake

@@ -20,6 +20,7 @@ mod busy;
 mod calm;
 mod challenges;
 mod cut;
+mod deliveries;
 mod granted;
 mod handshake;
 mod lasting;
@@ -46,6 +47,7 @@ pub use cut::{
     polled_clients_are_quiet, runs_give_the_same_for_any_cut, streams_are_worked,
     streams_give_the_same_for_any_cut, wholes_are_frames,
 };
+pub use deliveries::{data_of_peers_is_returned, deliveries_are_worked};
 pub use granted::grants_have_replies;
 pub use handshake::{a_handshake_succeeds, handshakes_succeed};
 pub use lasting::{

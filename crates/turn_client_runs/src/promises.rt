@@ -1,6 +1,7 @@
 //! All that runs keep, as `turn_client_proto::replay` carries it.
 
 ghost use Rattle.turn_client_runs.specs.Calm.{TrafficIsCalm};
+ghost use Rattle.turn_client_runs.specs.Deliveries.{DataIsReturned};
 ghost use Rattle.turn_client_runs.specs.Events.{EventsHaveCauses};
 ghost use Rattle.turn_client_runs.specs.Holds.{HoldsOfRuns};
 ghost use Rattle.turn_client_runs.specs.LastingRuns.{GrantsLastInRuns};
@@ -16,7 +17,8 @@ ghost use Rattle.turn_client_runs.specs.Short.{StreamsAreShort};
 /// What a run of a new client keeps, whatever its configuration, its seed and its calls, if no memory allocation
 /// fails. After each call every active grant has its signed reply to an own request, no channel number names two
 /// peers, and what is bound has the success that bound it, and the offer that the caller accepted for it (RFC 8656,
-/// sections 7.3, 9, 12; RFC 6062, sections 4.3 and 4.4). Each payload is of a permitted peer, a reply is accepted once, and of any calls that follow each other at most as many challenges
+/// sections 7.3, 9, 12; RFC 6062, sections 4.3 and 4.4). Each payload is of a permitted peer, and all payloads of
+/// such are returned, a reply is accepted once, and of any calls that follow each other at most as many challenges
 /// as configured are answered before a signed reply. Realm and algorithm stay, and are those of the first challenge
 /// that was answered. What calls change and return is by their inputs, and these are all that arrives for a stream,
 /// in order. What goes out goes to the server, and data for a peer to that peer, whenever it can be reached. Each
@@ -31,6 +33,7 @@ pub fn runs_keep_their_promises()
     ensures bound { HoldsOfRuns (AfterEach BoundHaveSuccess) }
     ensures offers { HoldsOfRuns (AfterEach BoundAreOffered) }
     ensures heard { HoldsOfRuns DeliversOnlyPermitted }
+    ensures delivered { HoldsOfRuns DataIsReturned }
     ensures counted { HoldsOfRuns RepliesCountOnce }
     ensures challenges { HoldsOfRuns FewAreAnswered }
     ensures realm { HoldsOfRuns RealmStays }

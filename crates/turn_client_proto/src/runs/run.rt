@@ -9,6 +9,7 @@ ghost use Rattle.turn_client_runs.specs.Processed.{CallsProcessInputs};
 ghost use Rattle.turn_client_runs.specs.Promises.{AfterEach, BoundHaveSuccess, CutsAgree, FewAreAnswered, GrantsHaveReplies, DeliversOnlyPermitted, InEachPart};
 ghost use Rattle.turn_client_runs.specs.Promises.{NumbersAreDistinct, RealmIsAnswered, RealmStays, RepliesCountOnce};
 ghost use Rattle.turn_client_runs.specs.Calm.{TrafficIsCalm};
+ghost use Rattle.turn_client_runs.specs.Deliveries.{DataIsReturned};
 ghost use Rattle.turn_client_runs.specs.Events.{EventsHaveCauses};
 ghost use Rattle.turn_client_runs.specs.LastingRuns.{GrantsLastInRuns};
 ghost use Rattle.turn_client_runs.specs.Offers.{BoundAreOffered};
@@ -58,6 +59,10 @@ pub struct Replayed {
 ///   of an input of these calls, whose peer had a permission, a channel or a bound data connection when it was
 ///   processed. An ICMP report is for a peer with a permission. Each input is a datagram of its call, the first
 ///   whole frame of its stream, or all that a bound stream holds, and was received by then.
+/// - `delivered`: over UDP a datagram of the server that is a DATA indication of a peer with an active permission, or a
+///   ChannelData message of an active channel, is returned by its `recv`, with exactly its data, and changes nothing. Over
+///   TCP so is each such frame of the control connection, and all that a bound connection holds, by the call that
+///   processes it, once and in order; and no stream holds a whole frame after a `poll_recv` that returned nothing.
 /// - `counted`: a reply is accepted only if its request is outstanding, and ends it; so a second reply with its
 ///   ID is accepted only if a new request was made with that ID (RFC 8489, section 6.3).
 /// - `challenges`: each challenge that is answered over the control connection is counted, and in any
@@ -139,6 +144,7 @@ pub fn replay(
     ensures offers { AfterEach BoundAreOffered (initial transport local remote config seed) calls.now }
     ensures given { InEachPart AnswersOnlyPermitted (initial transport local remote config seed) calls.now }
     ensures heard { DeliversOnlyPermitted (initial transport local remote config seed) calls.now }
+    ensures delivered { DataIsReturned (initial transport local remote config seed) calls.now }
     ensures counted { RepliesCountOnce (initial transport local remote config seed) calls.now }
     ensures challenges { FewAreAnswered (initial transport local remote config seed) calls.now }
     ensures realm { RealmStays (initial transport local remote config seed) calls.now }

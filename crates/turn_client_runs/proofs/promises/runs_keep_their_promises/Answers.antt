@@ -1,6 +1,7 @@
 use Rattle.turn_client_runs.proofs.PromiseLemmas.{run-bound, run-cuts, run-events, run-few, run-granted, run-hears, run-held, run-lasts, run-numbers, run-offers, run-order, run-processed, run-realm}
 use Rattle.turn_client_runs.proofs.PromiseLemmas.{run-replies, run-sent, run-short}
 use Rattle.turn_client_runs.proofs.CalmRuns.{run-calm}
+use Rattle.turn_client_runs.proofs.DeliveryRuns.{run-returns}
 use Rattle.turn_client_runs.proofs.SendsRuns.{run-sends_to}
 use Rattle.turn_client_runs.proofs.promises.runs_keep_their_promises.Goals as goal
 
@@ -11,6 +12,7 @@ returns c = record {
   bound = run-bound;
   offers = run-offers;
   heard = run-hears;
+  delivered = run-returns;
   counted = run-replies;
   challenges = run-few;
   realm = run-realm;

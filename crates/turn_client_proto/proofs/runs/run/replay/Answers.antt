@@ -3,6 +3,7 @@ use Rattle.turn_client_runs.proofs.PromiseLemmas.{run-numbers, run-offers, run-o
 use Rattle.turn_client_runs.proofs.PacedLemmas.{run-paced}
 use Rattle.turn_client_runs.proofs.ReportedRuns.{causes-reported-once}
 use Rattle.turn_client_runs.proofs.CalmRuns.{run-calm}
+use Rattle.turn_client_runs.proofs.DeliveryRuns.{run-returns}
 use Rattle.turn_client_runs.proofs.SendsRuns.{run-sends_to}
 use Rattle.turn_client_api.specs.State.{initial}
 use Rattle.turn_client_proto.proofs.DeliveredLemmas.{gives-let-in}
@@ -28,6 +29,9 @@ returns-clause-given c = λ earlier middle later e.
 
 pub returns-clause-heard : goal.returns-clause-heard
 returns-clause-heard c = run-hears c.args.transport c.args.local c.args.remote c.args.config c.args.seed c.args.calls.now
+
+pub returns-clause-delivered : goal.returns-clause-delivered
+returns-clause-delivered c = run-returns c.args.transport c.args.local c.args.remote c.args.config c.args.seed c.args.calls.now
 
 pub returns-clause-counted : goal.returns-clause-counted
 returns-clause-counted c = run-replies c.args.transport c.args.local c.args.remote c.args.config c.args.seed c.args.calls.now
