@@ -48,11 +48,11 @@ grown_if is_one count = if is_one then min (count + 1) 255 else 0
 -- a quota counts only if no earlier allocation of this relay may be what uses it up
 abbrev pub after_failure : Cause → ℕ → Failures → Failures
 after_failure cause now f = record {
-    credentials = grown_if (has_wrong_credentials cause) f.credentials;
-    refused = grown_if (has_final_code cause) f.refused;
-    quota = grown_if (is_over_quota cause && not (nat_lt now f.alive_until)) f.quota;
-    alive_until = f.alive_until
-  }
+  credentials = grown_if (has_wrong_credentials cause) f.credentials;
+  refused = grown_if (has_final_code cause) f.refused;
+  quota = grown_if (is_over_quota cause && not (nat_lt now f.alive_until)) f.quota;
+  alive_until = f.alive_until;
+}
 
 -- no other try is made
 abbrev pub is_last : Failures → Bool

@@ -34,7 +34,10 @@ impl Backoff {
         ensures value { result ≡ drawn_wait self wait (lot_of number) }
         ensures least { IsLeast self wait result }
     {
-        let random = u128::from(wait) * u128::from(self.jitter.min(1_000)) * u128::from(lot_of(number)) / LOTS;
+        let random = u128::from(wait)
+            * u128::from(self.jitter.min(1_000))
+            * u128::from(lot_of(number))
+            / LOTS;
         u128::from(wait).saturating_sub(random) as u64
     }
 

@@ -5,9 +5,7 @@ ghost use Rattle.turn_relay_tries.specs.Failures.{after_failure, after_leaving, 
 ghost use Rattle.turn_relay_tries.specs.Failures.{code_of, grown_if, has_final_code, has_wrong_credentials, is_over_quota};
 
 use crate::causes::Cause;
-use crate::constants::{
-    MAX_QUOTA, MAX_REFUSED, TRY_ALTERNATE, UNSUPPORTED_TRANSPORT_PROTOCOL,
-};
+use crate::constants::{MAX_QUOTA, MAX_REFUSED, TRY_ALTERNATE, UNSUPPORTED_TRANSPORT_PROTOCOL};
 use turn_session_book::causes::Why;
 use turn_stun::attribute::error_code::ErrorCode;
 use turn_stun::instant::Instant;
@@ -79,7 +77,10 @@ fn grown_if(is_one: bool, count: u8) -> u8
 fn has_wrong_credentials(cause: Cause) -> bool
     ensures { result ≡ has_wrong_credentials cause }
 {
-    matches!(cause, Cause::Life(Why::WrongCredentials(_) | Why::CredentialsRefused))
+    matches!(
+        cause,
+        Cause::Life(Why::WrongCredentials(_) | Why::CredentialsRefused)
+    )
 }
 
 /// Whether the server refused the allocation by an error that stays as it is.
