@@ -28,8 +28,6 @@ mod gathered;
 #[cfg(test)]
 mod given_up;
 #[cfg(test)]
-mod long_burst;
-#[cfg(test)]
 mod looped;
 #[cfg(test)]
 mod memory;
