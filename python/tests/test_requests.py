@@ -113,11 +113,16 @@ class Requests(Case):
 
 
 class RestartedServer(Server):
-    """A server that refuses the refreshes of an allocation that it does not know, as coturn does."""
+    """A server that refuses the refreshes of an allocation that it does not know: by 437, by 400, as coturn does, or by 441, as
+    coturn does with another realm than before."""
+
+    def __init__(self, code: int, **settings: Any) -> None:
+        super().__init__(**settings)
+        self.code = bytes(divmod(code, 100))
 
     def answer(self, message: Message, source: Where, allocation: Any, now: float) -> bytes:
         answer = super().answer(message, source, allocation, now)
-        return answer.replace(b"\0\0\4\x25no", b"\0\0\4\0no") if allocation is None else answer
+        return answer.replace(b"\0\0\4\x25no", b"\0\0" + self.code + b"no") if allocation is None else answer
 
 
 class Ends(unittest.TestCase):
@@ -135,9 +140,10 @@ class Ends(unittest.TestCase):
         return str(ended.exception)
 
     def test_a_server_that_was_restarted(self) -> None:
-        for server in (Server(lifetime=70), RestartedServer(lifetime=70)):
+        for code in (437, 400, 441):
+            server = RestartedServer(code, lifetime=70)
             said = run(self.end(server, clear=True))
-            self.assertRegex(said, r"\((437|400) no\): it no longer knows it, as after a restart$")
+            self.assertRegex(said, rf"\({code} no\): it no longer knows it, as after a restart$")
 
     def test_a_server_whose_lifetimes_are_short(self) -> None:
         said = run(self.end(Server(lifetime=70), clear=False))

@@ -9,6 +9,7 @@ from .asked import Key, Record
 from .clock import Clock
 from .errors import AllocationFailed, Ended, Hint, WrongCredentials, because
 from .redirect import TRY_ALTERNATE, alternate_of
+from .standing import UNKNOWN
 
 __all__ = ["Diagnosis"]
 
@@ -86,7 +87,7 @@ class Diagnosis:
         if refresh is not None and refresh.error is not None:
             code, phrase = refresh.error
             told = f"({code} {phrase})".replace(" )", ")")
-            if code in (400, 437):
+            if code in UNKNOWN:
                 return f"the server does not renew the relayed address {told}: it no longer knows it, as after a restart"
             return f"the server does not renew the relayed address {told}"
         if refresh is not None and refresh.is_granted and refresh.lifetime is not None and refresh.lifetime < MIN_LIFETIME:
