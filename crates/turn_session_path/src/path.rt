@@ -1,11 +1,13 @@
 //! Whether the path to the server still carries packets.
 
 ghost use Rattle.std.specs.Prelude.{◌≡◌};
-ghost use Rattle.turn_session_path.specs.Path.{after_check, after_failure, after_full, after_room, after_sending, first_path, probed_every, ticket_of};
+ghost use Rattle.turn_session_path.specs.Path.{after_check, after_failure, after_full, after_probing, after_room, after_sending, first_path, probed_every, ticket_of};
 
 mod due;
 mod poll;
 mod responses;
+
+pub use due::sooner;
 
 use crate::asked::Asked;
 use crate::full_stream::FullStream;
@@ -105,6 +107,13 @@ impl Path {
             full: FullStream::new(),
             sent: None,
         }
+    }
+
+    /// From now on the path is probed with this time between two probes, in nanoseconds, or with `None` only when the caller asks.
+    pub fn probe(&mut self, every: Option<u64>, now: Instant)
+        ensures { self.new ≡ after_probing every now self.old }
+    {
+        self.prober = first_prober(every, now);
     }
 
     /// The caller asks whether the path carries packets. Returns the ticket of the check under way, or else begins one with this

@@ -5,6 +5,7 @@ ghost use Rattle.turn_session_path.specs.Suspicion.{after_answer, after_doubt, a
 
 use crate::constants::{
     ALLOCATION_CHECK, ALLOCATION_PAUSE_ENDS, FIRST_ALLOCATION_PAUSE, LAST_ALLOCATION_PAUSE, RUN,
+    WRONG_CREDENTIALS,
 };
 use std::time::Duration;
 use turn_stun::attribute::error_code::ErrorCode;
@@ -152,12 +153,16 @@ fn check_deadline(now: Instant) -> Instant
     now.plus(Duration::from_nanos(ALLOCATION_CHECK))
 }
 
-/// Whether a server that answers by this error code has forgotten the allocation.
-fn is_forgotten(code: Option<u16>) -> bool
+/// Whether a server that answers by this error code no longer knows the allocation.
+pub fn is_forgotten(code: Option<u16>) -> bool
     ensures { result ≡ is_forgotten code }
 {
     match code {
-        Some(code) => code == ErrorCode::BAD_REQUEST || code == ErrorCode::ALLOCATION_MISMATCH,
+        Some(code) => {
+            code == ErrorCode::BAD_REQUEST
+                || code == ErrorCode::ALLOCATION_MISMATCH
+                || code == WRONG_CREDENTIALS
+        }
         None => false,
     }
 }
