@@ -1,5 +1,5 @@
 -- What the server has granted to a session.
-use Rattle.std.specs.Prelude.{◌-◌, Bool, true, false, if◌then◌else◌, List, [], ◌∷◌, ◌++◌, find, length, take, option_map, Option}
+use Rattle.std.specs.Prelude.{Bool, true, false, if◌then◌else◌, List, [], ◌∷◌, ◌++◌, find, option_map, Option}
 use Rattle.std.specs.List.{list_any}
 use Rattle.std.specs.Option.{option_map_or}
 use Rattle.turn_session_book.specs.First.{with_first, without_first}
@@ -37,6 +37,3 @@ with_mark key is_kept held = with_first (is_of key) (marked is_kept) held
 -- the others
 abbrev pub without_grant : Key → List HeldGrant → List HeldGrant
 without_grant key held = without_first (is_of key) held
-
-abbrev pub without_last : List HeldGrant → List HeldGrant
-without_last held = take (length held - 1) held

@@ -2,7 +2,7 @@
 
 ghost use Rattle.std.specs.Prelude.{◌≡◌, [], OnErr, OnOk};
 ghost use Rattle.std.specs.List.{position};
-ghost use Rattle.turn_session_book.specs.Held.{after_grant, is_held, is_kept_held, is_kept_in, is_of, with_mark, without_grant, without_last};
+ghost use Rattle.turn_session_book.specs.Held.{after_grant, is_held, is_kept_held, is_kept_in, is_of, with_mark, without_grant};
 
 use crate::keys::Key;
 use std::alloc::{AllocError, Global};
@@ -74,13 +74,6 @@ impl Held {
         self.grants.reserve(1)?;
         self.grants.push_reserved(HeldGrant { key, is_kept: true });
         Ok(())
-    }
-
-    /// Forgets the last one: it was not granted after all.
-    pub fn withdraw(&mut self)
-        ensures { self.new ≡ without_last self.old }
-    {
-        let _last = self.grants.pop();
     }
 
     /// The caller keeps this key, or lets it go.

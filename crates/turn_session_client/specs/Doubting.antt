@@ -7,7 +7,6 @@ use Rattle.turn_client_api.specs.Calls.{create_permission_step, permission_kept_
 use Rattle.turn_client_api.specs.State.{State}
 use Rattle.turn_client_api.specs.declared.error.CreatePermissionError.{CreatePermissionError}
 use Rattle.turn_client_api.specs.declared.error.CreatePermissionError.TheVariants as Create
-use Rattle.turn_session_book.specs.Held.{after_grant, is_held}
 use Rattle.turn_session_book.specs.declared.causes.Why.{Why}
 use Rattle.turn_session_book.specs.declared.keys.Key.TheVariants.{Permission}
 use Rattle.turn_session_life.specs.Doubts.{after_asking, after_told, cause_told, doubts_step}
@@ -20,6 +19,7 @@ use Rattle.turn_session_life.specs.declared.doubts.DoubtsStep.TheVariants as Ste
 use Rattle.turn_session_life.specs.declared.responses.Response.{Response}
 use Rattle.turn_session_client.specs.Ending.{ended, is_open, left_for}
 use Rattle.turn_session_client.specs.NotedState.{NotedState}
+use Rattle.turn_session_client.specs.Notes.{is_asked, shelved}
 use Rattle.turn_session_client.specs.Receiving.{doubted}
 use Rattle.turn_session_client.specs.declared.noted.doubting.DoubtsPoll.{DoubtsPoll}
 use Rattle.turn_session_client.specs.declared.noted.doubting.DoubtsPoll.TheVariants.{Now, WaitUntil, Idle, NoMemory}
@@ -61,30 +61,28 @@ AsksClient (Some asking) was s said = (asking ≡ said.0) × (s ≡ said.1)
 
 -- ---- the question
 
--- a permission that was requested is noted
-abbrev pub question_noted : TransportType → IpAddr → ℕ → NotedState → NotedState
-question_noted relays ip now s = by (asked_by relays ip now s.client)
-  where
-    by : Asking × State → NotedState
-    by (Asked, client) = record s {
-      client = client;
-      notes = record s.notes { questions = after_grant (Permission ip) s.notes.questions };
-      doubts = after_asking Asked s.doubts;
-    }
-    by (asking, client) = record s { client = client; doubts = after_asking asking s.doubts }
+-- what was asked for is the last question
+abbrev pub with_question : Asking → IpAddr → NotedState → NotedState
+with_question Asked ip s =
+    with_doubts (after_asking Asked s.doubts) (record s { notes = record s.notes { question = Some (Permission ip) } })
+with_question asking ip s = with_doubts (after_asking asking s.doubts) s
 
+-- without memory nothing changes
 abbrev pub AsksNew : TransportType → IpAddr → ℕ → NotedState → NotedState → DoubtsPoll → Type 0
 AsksNew relays ip now was s answer =
-    ((answer ≡ Now) × (s ≡ question_noted relays ip now was)) ⊎ ((answer ≡ NoMemory) × (s ≡ was))
+    let step = asked_by relays ip now was.client in
+    ((answer ≡ Now) × (s ≡ with_question step.0 ip (record was { client = step.1 }))) ⊎ ((answer ≡ NoMemory) × (s ≡ was))
 
+-- the question before it is noted with the others first
 abbrev pub AsksFor : TransportType → IpAddr → ℕ → NotedState → NotedState → DoubtsPoll → Type 0
-AsksFor relays ip now was s answer = by (is_held (Permission ip) was.notes.questions)
+AsksFor relays ip now was s answer = by (is_asked (Permission ip) was.notes)
   where
     by : Bool → Type 0
     by true = (answer ≡ Now) × (s ≡ with_doubts (after_asking Taken was.doubts) was)
-    by false = AsksNew relays ip now was s answer
+    by false =
+        AsksNew relays ip now (record was { notes = shelved was.notes }) s answer ⊎ ((answer ≡ NoMemory) × (s ≡ was))
 
--- the address with the next number, unless a question of it is noted
+-- the address with the next number, unless it was asked for
 abbrev pub AsksNext : ℕ → NotedState → NotedState → DoubtsPoll → Type 0
 AsksNext now was s answer = by was.notes.relays
   where

@@ -1,10 +1,12 @@
 -- What is noted of a client.
-use Rattle.std.specs.Prelude.{ℕ, ◌&&◌, Bool, if◌then◌else◌, [], Option, Some, None, is_none}
+use Rattle.std.specs.Prelude.{ℕ, ◌&&◌, ◌||◌, Bool, false, if◌then◌else◌, [], Option, Some, None, is_none}
 use Rattle.turn_client_api.specs.declared.event.TurnEvent.{TurnEvent}
 use Rattle.turn_client_api.specs.declared.event.TurnEvent.TheVariants.{AllocationCreated, AllocationCreateFailed, PermissionCreated, PermissionCreateFailed}
 use Rattle.turn_client_api.specs.declared.event.TurnEvent.TheVariants.{ChannelCreated, ChannelCreateFailed, TcpConnected, TcpConnectFailed}
 use Rattle.turn_session_book.specs.Book.{after_connection, after_failure, after_grant, after_report, new_book, relayed_event}
 use Rattle.turn_session_book.specs.Held.{is_held, is_kept_held, without_grant}
+use Rattle.turn_session_book.specs.Held as Held
+use Rattle.turn_session_book.specs.Keys.{same_key}
 use Rattle.turn_session_book.specs.OpenRequests.{request_for}
 use Rattle.turn_session_book.specs.declared.events.Event.TheVariants.{FamilyFailed}
 use Rattle.turn_session_book.specs.declared.keys.Key.{Key}
@@ -14,7 +16,7 @@ use Rattle.turn_session_client.specs.declared.notes.Notes.{Notes}
 use Rattle.turn_session_client.specs.declared.notes.Told.{Told}
 
 abbrev pub new_notes : Notes
-new_notes = record { book = new_book; relays = None; mapped = None; reply = None; silent = None; questions = []; told = None }
+new_notes = record { book = new_book; relays = None; mapped = None; reply = None; silent = None; question = None; questions = []; told = None }
 
 -- a grant that was kept, and whose renewal had no response
 abbrev pub silent_after : Key → Notes → Option Key
@@ -26,9 +28,25 @@ failed key now n = record n { book = after_failure key n.reply now n.book; silen
 
 -- ---- permissions that ask whether the server knows the allocation
 
+abbrev pub is_last_question : Key → Option Key → Bool
+is_last_question key None = false
+is_last_question key (Some question) = same_key question key
+
+-- the last question, or one before it
+abbrev pub is_asked : Key → Notes → Bool
+is_asked key n = is_last_question key n.question || is_held key n.questions
+
 -- one that the caller has requested since is its own
 abbrev pub is_question : Key → Notes → Bool
-is_question key n = is_held key n.questions && is_none (request_for key n.book.requests)
+is_question key n = is_asked key n && is_none (request_for key n.book.requests)
+
+-- the last question is noted with those before it
+abbrev pub shelved : Notes → Notes
+shelved n = by n.question
+  where
+    by : Option Key → Notes
+    by None = n
+    by (Some question) = record n { question = None; questions = Held.after_grant question n.questions }
 
 abbrev pub permitted : Key → Notes → Notes
 permitted key n =
@@ -40,7 +58,11 @@ told_by None told = told
 told_by (Some error) told = Some (record { error = Some error })
 
 abbrev pub question_failed : Key → Notes → Notes
-question_failed key n = record n { questions = without_grant key n.questions; told = told_by n.reply n.told }
+question_failed key n = record n {
+  question = if is_last_question key n.question then None else n.question;
+  questions = without_grant key n.questions;
+  told = told_by n.reply n.told;
+}
 
 abbrev pub permission_failed : Key → ℕ → Notes → Notes
 permission_failed key now n = if is_question key n then question_failed key n else failed key now n

@@ -1,7 +1,7 @@
 //! What is noted of a client.
 
 ghost use Rattle.std.specs.Prelude.{◌≡◌, OnErr, OnOk};
-ghost use Rattle.turn_session_client.specs.Notes.{failed, is_question, new_notes, noted, permission_failed, permitted, question_failed};
+ghost use Rattle.turn_session_client.specs.Notes.{failed, is_asked, is_last_question, is_question, new_notes, noted, permission_failed, permitted, question_failed, shelved};
 
 use std::alloc::{AllocError, Global};
 use std::net::SocketAddr;
@@ -26,7 +26,9 @@ pub struct Notes {
     pub reply: Option<ErrorReply>,
     /// A grant that was kept, and whose renewal had no response.
     pub silent: Option<Key>,
-    /// The permissions that were requested to ask whether the server knows the allocation, and that the client has not given up.
+    /// The permission that was requested last to ask whether the server knows the allocation, unless it has ended.
+    pub question: Option<Key>,
+    /// Those before it that have not ended.
     pub questions: Held,
     /// What the server has said to the last of these, until that is used.
     pub told: Option<Told>,
@@ -50,6 +52,7 @@ impl Notes {
             mapped: None,
             reply: None,
             silent: None,
+            question: None,
             questions: Held::new(alloc),
             told: None,
         }
@@ -119,6 +122,9 @@ impl Notes {
     fn answered(&mut self, key: Key)
         ensures { self.new ≡ question_failed key self.old }
     {
+        if self.is_last_question(key) {
+            self.question = None;
+        }
         let _kept = self.questions.ended(key);
         if self.reply.is_some() {
             self.told = Some(Told { error: self.reply });
@@ -126,10 +132,44 @@ impl Notes {
     }
 
     /// Whether this permission is a question, and none that the caller has requested since.
-    pub fn is_question(&self, key: Key) -> bool
+    fn is_question(&self, key: Key) -> bool
         ensures { result ≡ is_question key self.now }
     {
-        self.questions.is_held(key) && self.book.request_of(key).is_none()
+        self.is_asked(key) && self.book.request_of(key).is_none()
+    }
+
+    /// Whether this permission was requested as a question, and has not ended.
+    pub fn is_asked(&self, key: Key) -> bool
+        ensures { result ≡ is_asked key self.now }
+    {
+        self.is_last_question(key) || self.questions.is_held(key)
+    }
+
+    /// Whether it is the question that was asked last.
+    fn is_last_question(&self, key: Key) -> bool
+        ensures { result ≡ is_last_question key self.now.question }
+    {
+        match self.question {
+            Some(question) => question == key,
+            None => false,
+        }
+    }
+
+    /// Notes the question that was asked last with those before it, so that another one can be asked.
+    ///
+    /// # Errors
+    ///
+    /// If memory allocation fails. Nothing changes then.
+    pub fn shelve_question(&mut self) -> Result<(), AllocError>
+        ensures ok { OnOk result (self.new ≡ shelved self.old) }
+        ensures err { OnErr result (self.new ≡ self.old) }
+    {
+        let Some(question) = self.question else {
+            return Ok(());
+        };
+        self.questions.granted(question)?;
+        self.question = None;
+        Ok(())
     }
 
     /// The server refused this key, by the error that was received last, or did not answer in time.

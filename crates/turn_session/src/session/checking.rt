@@ -41,7 +41,8 @@ impl<C: TurnClientApi> Session<C> {
 
     /// Tells the path when something was received last.
     pub(crate) fn tell_path(&mut self)
-        ensures { self.new ≡ told_path self.old }
+        ensures kept { self.new.noted ≡ self.old.noted }
+        ensures told { self.new ≡ told_path self.old }
     {
         if let Some(at) = self.received {
             self.received = None;

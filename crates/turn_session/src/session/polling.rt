@@ -1,7 +1,7 @@
 //! What is due.
 
 ghost use Rattle.std.specs.Prelude.{◌≡◌, ◌≤◌, ◌^◌};
-ghost use Rattle.turn_session.specs.Polling.{PollsBoth, PollsDoubts, PollsOpen, Polls, PollsUnopened, begun, capped};
+ghost use Rattle.turn_session.specs.Polling.{DoubtsLead, PollsBoth, PollsDoubts, PollsOpen, Polls, PollsUnopened, begun, capped};
 
 use crate::session::Session;
 use std::time::Duration;
@@ -84,7 +84,16 @@ impl<C: TurnClientApi> Session<C> {
         requires now_in_range { now ≤ 2 ^ 62 }
         ensures { PollsDoubts path now self.old self.new result }
     {
-        match self.noted.poll_doubts(now) {
+        let said = self.noted.poll_doubts(now);
+        self.go_on(said, path, now)
+    }
+
+    /// Polls the client, unless the doubts of the allocation have just led to something.
+    fn go_on(&mut self, said: DoubtsPoll, path: Option<Instant>, now: Instant) -> TurnPollRet
+        requires now_in_range { now ≤ 2 ^ 62 }
+        ensures { DoubtsLead path now said self.old self.new result }
+    {
+        match said {
             DoubtsPoll::Now => TurnPollRet::WaitUntil(now),
             DoubtsPoll::WaitUntil(time) => self.poll_both(sooner(path, Some(time)), now),
             DoubtsPoll::Idle => self.poll_both(path, now),

@@ -51,7 +51,8 @@ impl<C: TurnClientApi> Session<C> {
         transmit: &Transmit<T>,
         now: Instant,
     ) -> bool
-        ensures { (result, self.new)
+        ensures kept { self.new.noted ≡ self.old.noted }
+        ensures step { (result, self.new)
             ≡ path_step transmit.now.transport transmit.now.from transmit.now.to (T.items transmit.now.payload) now self.old }
     {
         if !self.noted.is_open() || !self.is_of_server(transmit) {

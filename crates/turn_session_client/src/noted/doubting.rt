@@ -1,9 +1,7 @@
 //! Whether the server still knows the allocation: it is asked in doubt.
 
-ghost use Rattle.std.specs.Prelude.{◌≡◌, ◌≤◌, ◌^◌, false};
-ghost use Rattle.turn_session_book.specs.Held.{is_held};
-ghost use Rattle.turn_session_book.specs.declared.keys.Key.TheVariants.{Permission};
-ghost use Rattle.turn_session_client.specs.Doubting.{AsksNext, AsksNew, PollsDoubts, after_doubt, after_move, doubts_ended, noted_doubts, told_step};
+ghost use Rattle.std.specs.Prelude.{◌≡◌, ◌≤◌, ◌^◌};
+ghost use Rattle.turn_session_client.specs.Doubting.{AsksNext, AsksNew, PollsDoubts, after_doubt, after_move, doubts_ended, noted_doubts, told_step, with_question};
 
 use crate::noted::NotedClient;
 use crate::question::{ask, question_ip};
@@ -99,41 +97,37 @@ impl<C: TurnClientApi> NotedClient<C> {
             return DoubtsPoll::Idle;
         };
         let ip = question_ip(self.doubts.is_ipv6, self.doubts.number);
-        if self.notes.questions.is_held(Key::Permission(ip)) {
+        if self.notes.is_asked(Key::Permission(ip)) {
             self.doubts.asked(Asking::Taken);
             return DoubtsPoll::Now;
+        }
+        if self.notes.shelve_question().is_err() {
+            return DoubtsPoll::NoMemory;
         }
         self.ask_new(relays, ip, now)
     }
 
-    /// Asks the server for this address, which is noted as a question.
+    /// Asks the server for this address, which is the last question then.
     fn ask_new(&mut self, relays: TransportType, ip: IpAddr, now: Instant) -> DoubtsPoll
         requires now_in_range { now ≤ 2 ^ 62 }
-        requires new { is_held (Permission ip) self.old.notes.questions ≡ false }
         ensures { AsksNew relays ip now self.old self.new result }
     {
-        if self
-            .notes
-            .questions
-            .granted(Key::Permission(ip))
-            .is_err()
-        {
-            return DoubtsPoll::NoMemory;
-        }
         match ask(&mut self.client, relays, ip, now) {
-            Some(Asking::Asked) => {
-                self.doubts.asked(Asking::Asked);
+            Some(asking) => {
+                self.note_question(asking, ip);
                 DoubtsPoll::Now
             }
-            Some(refusal) => {
-                self.notes.questions.withdraw();
-                self.doubts.asked(refusal);
-                DoubtsPoll::Now
-            }
-            None => {
-                self.notes.questions.withdraw();
-                DoubtsPoll::NoMemory
-            }
+            None => DoubtsPoll::NoMemory,
+        }
+    }
+
+    /// Notes what became of a question for this address.
+    fn note_question(&mut self, asking: Asking, ip: IpAddr)
+        ensures { self.new ≡ with_question asking ip self.old }
+    {
+        self.doubts.asked(asking);
+        if matches!(asking, Asking::Asked) {
+            self.notes.question = Some(Key::Permission(ip));
         }
     }
 
