@@ -237,9 +237,5 @@ fn later_step(grace: Option<Instant>, time: Option<Instant>) -> DoubtsStep
 fn number_after(number: u8) -> u8
     ensures { result ≡ number_after number }
 {
-    if number < LAST_NUMBER {
-        number + 1
-    } else {
-        1
-    }
+    if number < LAST_NUMBER { number + 1 } else { 1 }
 }

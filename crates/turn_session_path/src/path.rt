@@ -7,13 +7,12 @@ mod due;
 mod poll;
 mod responses;
 
-pub use due::sooner;
-
 use crate::asked::Asked;
 use crate::full_stream::FullStream;
 use crate::prober::Prober;
 use crate::round::{Asks, CheckRequest};
 use crate::socket_errors::SocketErrors;
+pub use due::sooner;
 use turn_agent::NumberSource;
 use turn_session_book::causes::Why;
 use turn_session_book::tags::Tag;

@@ -8,8 +8,8 @@ ghost use Rattle.turn_session_client.specs.Reading.{IsReading};
 ghost use Rattle.turn_session_client.specs.declared.reading.Reading.{Reading};
 ghost use Rattle.turn_session_client.specs.Receiving.{Receives, ended_with, heard_step, noted_response, outcome_in, reply_for, received};
 
-use crate::reading::{Reading, hint_in, mapped_after, read, reply_in, response_to};
 use crate::noted::NotedClient;
+use crate::reading::{Reading, hint_in, mapped_after, read, reply_in, response_to};
 use std::alloc::AllocError;
 use std::convert::AsSlice;
 use std::fmt::Debug;
