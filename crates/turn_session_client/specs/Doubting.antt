@@ -10,7 +10,7 @@ use Rattle.turn_client_api.specs.declared.error.CreatePermissionError.TheVariant
 use Rattle.turn_session_book.specs.declared.causes.Why.{Why}
 use Rattle.turn_session_book.specs.declared.keys.Key.TheVariants.{Permission}
 use Rattle.turn_session_life.specs.Doubts.{after_asking, after_told, cause_told, doubts_step}
-use Rattle.turn_session_life.specs.Doubts as Doubts
+use Rattle.turn_session_life.specs.Doubts as Parts
 use Rattle.turn_session_life.specs.declared.doubts.Asking.{Asking}
 use Rattle.turn_session_life.specs.declared.doubts.Asking.TheVariants.{Asked, Taken, NoAllocation}
 use Rattle.turn_session_life.specs.declared.doubts.Doubts.{Doubts}
@@ -29,10 +29,10 @@ abbrev pub with_doubts : Doubts → NotedState → NotedState
 with_doubts doubts s = record s { doubts = doubts }
 
 abbrev pub after_doubt : NotedState → NotedState
-after_doubt s = with_doubts (Doubts.after_doubt s.doubts) s
+after_doubt s = with_doubts (Parts.after_doubt s.doubts) s
 
 abbrev pub after_move : NotedState → NotedState
-after_move s = with_doubts (Doubts.after_move s.doubts) s
+after_move s = with_doubts (Parts.after_move s.doubts) s
 
 abbrev pub noted_doubts : Response → ℕ → NotedState → NotedState
 noted_doubts r now s = with_doubts (doubted r now s) s

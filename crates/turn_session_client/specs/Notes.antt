@@ -48,9 +48,16 @@ shelved n = by n.question
     by None = n
     by (Some question) = record n { question = None; questions = Held.after_grant question n.questions }
 
+abbrev pub without_question : Key → Notes → Notes
+without_question key n = record n {
+  question = if is_last_question key n.question then None else n.question;
+  questions = without_grant key n.questions;
+}
+
 abbrev pub permitted : Key → Notes → Notes
 permitted key n =
-    if is_question key n then record n { told = Some (record { error = None }) } else record n { book = after_grant key n.book }
+    if is_question key n then record n { told = Some (record { error = None }) }
+    else without_question key (record n { book = after_grant key n.book })
 
 -- without an error it has timed out, or expired
 abbrev pub told_by : Option ErrorReply → Option Told → Option Told
@@ -58,11 +65,7 @@ told_by None told = told
 told_by (Some error) told = Some (record { error = Some error })
 
 abbrev pub question_failed : Key → Notes → Notes
-question_failed key n = record n {
-  question = if is_last_question key n.question then None else n.question;
-  questions = without_grant key n.questions;
-  told = told_by n.reply n.told;
-}
+question_failed key n = record (without_question key n) { told = told_by n.reply n.told }
 
 abbrev pub permission_failed : Key → ℕ → Notes → Notes
 permission_failed key now n = if is_question key n then question_failed key n else failed key now n

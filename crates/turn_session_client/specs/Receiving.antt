@@ -9,7 +9,7 @@ use Rattle.turn_client_api.specs.State.{State}
 use Rattle.turn_client_api.specs.declared.event.TurnEvent.{TurnEvent}
 use Rattle.turn_session_book.specs.declared.causes.Why.TheVariants.{OutOfMemory}
 use Rattle.turn_session_book.specs.declared.replies.ErrorReply.{ErrorReply}
-use Rattle.turn_session_life.specs.Doubts as Doubts
+use Rattle.turn_session_life.specs.Doubts as Doubting
 use Rattle.turn_session_life.specs.Heard as Heard
 use Rattle.turn_session_life.specs.Life.{after_end, after_heard}
 use Rattle.turn_session_life.specs.Verdict as Verdict
@@ -42,7 +42,7 @@ blamed (Some e) is_challenged now blame = Verdict.after_refusal (Heard.refusal e
 
 -- an open session doubts its allocation
 abbrev pub doubted : Response → ℕ → NotedState → Doubts
-doubted r now s = if is_open s.life.phase then Doubts.after_response r now s.doubts else s.doubts
+doubted r now s = if is_open s.life.phase then Doubting.after_response r now s.doubts else s.doubts
 
 abbrev pub noted_response : Response → ℕ → NotedState → NotedState
 noted_response r now s =

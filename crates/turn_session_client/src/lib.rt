@@ -18,7 +18,7 @@ mod keeping;
 pub mod making;
 pub mod noted;
 pub mod notes;
-pub mod question;
+mod question;
 pub mod reading;
 mod refused;
 

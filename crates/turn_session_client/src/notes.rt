@@ -1,7 +1,7 @@
 //! What is noted of a client.
 
 ghost use Rattle.std.specs.Prelude.{◌≡◌, OnErr, OnOk};
-ghost use Rattle.turn_session_client.specs.Notes.{failed, is_asked, is_last_question, is_question, new_notes, noted, permission_failed, permitted, question_failed, shelved};
+ghost use Rattle.turn_session_client.specs.Notes.{failed, is_asked, is_last_question, is_question, new_notes, noted, permission_failed, permitted, question_failed, shelved, without_question};
 
 use std::alloc::{AllocError, Global};
 use std::net::SocketAddr;
@@ -103,7 +103,9 @@ impl Notes {
             self.told = Some(Told { error: None });
             return Ok(());
         }
-        self.book.granted(key)
+        self.book.granted(key)?;
+        self.forget_question(key);
+        Ok(())
     }
 
     /// The server refused this permission, or did not answer in time, which is noted, unless it was a question.
@@ -122,13 +124,20 @@ impl Notes {
     fn answered(&mut self, key: Key)
         ensures { self.new ≡ question_failed key self.old }
     {
+        self.forget_question(key);
+        if self.reply.is_some() {
+            self.told = Some(Told { error: self.reply });
+        }
+    }
+
+    /// This permission is no question any more.
+    fn forget_question(&mut self, key: Key)
+        ensures { self.new ≡ without_question key self.old }
+    {
         if self.is_last_question(key) {
             self.question = None;
         }
         let _kept = self.questions.ended(key);
-        if self.reply.is_some() {
-            self.told = Some(Told { error: self.reply });
-        }
     }
 
     /// Whether this permission is a question, and none that the caller has requested since.

@@ -4,10 +4,10 @@ use Rattle.turn_session_book.specs.declared.causes.Why.{Why}
 use Rattle.turn_session_book.specs.declared.causes.Why.TheVariants.{CredentialsRefused, Forgotten, Unanswered}
 use Rattle.turn_session_book.specs.declared.replies.ErrorReply.{ErrorReply}
 use Rattle.turn_session_path.specs.Credentials.{credentials_step, is_first_refusal, no_refusal}
-use Rattle.turn_session_path.specs.Credentials as Credentials
+use Rattle.turn_session_path.specs.Credentials as Refusals
 use Rattle.turn_session_path.specs.PathDue.{sooner}
 use Rattle.turn_session_path.specs.Suspicion.{is_forgotten, no_doubt, suspicion_step}
-use Rattle.turn_session_path.specs.Suspicion as Suspicion
+use Rattle.turn_session_path.specs.Suspicion as Suspicions
 use Rattle.turn_session_path.specs.declared.credentials.CredentialsStep.{CredentialsStep}
 use Rattle.turn_session_path.specs.declared.credentials.CredentialsStep.TheVariants as Accepting
 use Rattle.turn_session_path.specs.declared.suspicion.DoubtStep.{DoubtStep}
@@ -31,11 +31,11 @@ no_doubts checks =
 
 -- errors and silence do where that is set
 abbrev pub after_doubt : Doubts → Doubts
-after_doubt d = if d.checks then record d { suspicion = Suspicion.after_doubt d.suspicion } else d
+after_doubt d = if d.checks then record d { suspicion = Suspicions.after_doubt d.suspicion } else d
 
 -- another address of this client always does
 abbrev pub after_move : Doubts → Doubts
-after_move d = record d { suspicion = Suspicion.after_move d.suspicion }
+after_move d = record d { suspicion = Suspicions.after_move d.suspicion }
 
 abbrev pub after_signed : Doubts → Doubts
 after_signed d = record d { credentials = no_refusal }
@@ -43,8 +43,8 @@ after_signed d = record d { credentials = no_refusal }
 -- the first 401 that nobody signed makes one doubt the allocation, and the second one user name and password
 abbrev pub after_401 : ℕ → Doubts → Doubts
 after_401 now d = record d {
-  credentials = Credentials.after_refusal now d.credentials;
-  suspicion = if is_first_refusal d.credentials then Suspicion.after_doubt d.suspicion else d.suspicion;
+  credentials = Refusals.after_refusal now d.credentials;
+  suspicion = if is_first_refusal d.credentials then Suspicions.after_doubt d.suspicion else d.suspicion;
 }
 
 abbrev pub after_hint : ErrorReply → Doubts → Doubts
@@ -95,7 +95,7 @@ cause_told (Some e) = if is_forgotten e.code then Some (Forgotten e) else None
 abbrev pub after_told : Option ErrorReply → ℕ → Doubts → Doubts
 after_told error now d =
     if is_forgotten (code_of error) then d
-    else record d { suspicion = Suspicion.after_answer (code_of error) now d.suspicion; hint = None }
+    else record d { suspicion = Suspicions.after_answer (code_of error) now d.suspicion; hint = None }
 
 -- ---- what is due
 
