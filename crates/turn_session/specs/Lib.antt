@@ -1,4 +1,5 @@
 pub mod Checking
+pub mod Due
 pub mod Ending
 pub mod PathMessages
 pub mod Polling

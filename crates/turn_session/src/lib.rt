@@ -11,6 +11,7 @@
 #![tactic(auto)]
 
 pub mod constants;
+pub mod due;
 mod path_messages;
 pub mod session;
 pub mod settings;

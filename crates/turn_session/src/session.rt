@@ -8,6 +8,7 @@ mod asking;
 mod checking;
 mod data;
 mod ending;
+mod next;
 mod polling;
 mod receiving;
 mod reporting;

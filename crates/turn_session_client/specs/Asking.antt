@@ -49,6 +49,14 @@ abbrev pub known_answer : Key → Bool → ℕ → NotedState → Option Answer
 known_answer key is_for_data now s =
     answer_with (is_granted key s) (request_for key s.notes.book.requests) (if is_for_data then rest_in_force key now s.notes.book.rests else None)
 
+-- how far a key has come; nothing of a session that leaves or has ended
+abbrev pub grant_of : Key → ℕ → NotedState → Option Answer
+grant_of key now s = by (cause_in s.life.phase)
+  where
+    by : Option Why → Option Answer
+    by (Some why) = Some (Ended why)
+    by None = known_answer key true now s
+
 -- ---- a new request
 
 abbrev pub next_number : ℕ → ℕ

@@ -2,7 +2,7 @@
 
 ghost use Rattle.std.specs.Prelude.{◌≡◌, ◌≤◌, ◌^◌};
 ghost use Rattle.turn_session.specs.SessionState.{NotesAlone, with_noted};
-ghost use Rattle.turn_session_client.specs.Asking.{Requests, keep_result};
+ghost use Rattle.turn_session_client.specs.Asking.{Requests, grant_of, keep_result};
 ghost use Rattle.turn_session_client.specs.Keeping.{kept_while_running};
 
 use crate::session::Session;
@@ -36,5 +36,14 @@ impl<C: TurnClientApi> Session<C> {
         ensures after { self.new ≡ with_noted (kept_while_running key is_kept self.old.noted).1 self.old }
     {
         self.noted.set_kept(key, is_kept)
+    }
+
+    /// How far this key has come, as a request for data would be answered that needs nothing of the client: `Granted` if it is active,
+    /// `Ticket` if it is requested, `Resting` if the server refused it a while ago, and `Ended` if the session leaves or has ended. With
+    /// `None` it would be requested.
+    pub fn grant_of(&self, key: Key, now: Instant) -> Option<Answer>
+        ensures { result ≡ grant_of key now self.now.noted }
+    {
+        self.noted.grant_of(key, now)
     }
 }

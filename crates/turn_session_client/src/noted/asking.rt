@@ -1,7 +1,7 @@
 //! Requests of the caller, and what it keeps.
 
 ghost use Rattle.std.specs.Prelude.{◌≡◌, ◌≤◌, ◌^◌, true};
-ghost use Rattle.turn_session_client.specs.Asking.{Answers, Begins, Requests, added, answer_with, begun, is_granted, keep_result, known_answer, makes};
+ghost use Rattle.turn_session_client.specs.Asking.{Answers, Begins, Requests, added, answer_with, begun, grant_of, is_granted, keep_result, known_answer, makes};
 ghost use Rattle.turn_session_client.specs.Keeping.{keep_step, kept_while_running};
 ghost use Rattle.turn_session_client.specs.Waiting.{must_wait};
 ghost use Rattle.turn_session_book.specs.OpenRequests.{request_for};
@@ -75,6 +75,18 @@ impl<C: TurnClientApi> NotedClient<C> {
                 true
             }
             Err(_) => false,
+        }
+    }
+
+    /// How far this key has come, as a request for data would be answered that needs nothing of the client: `Granted` if it is active,
+    /// `Ticket` if it is requested, `Resting` if the server refused it a while ago, and `Ended` if the session leaves or has ended. With
+    /// `None` it would be requested.
+    pub fn grant_of(&self, key: Key, now: Instant) -> Option<Answer>
+        ensures { result ≡ grant_of key now self.now }
+    {
+        match self.life.cause() {
+            Some(why) => Some(Answer::Ended(why)),
+            None => self.known_answer(key, true, now),
         }
     }
 
