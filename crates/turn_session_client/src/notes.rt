@@ -1,7 +1,8 @@
 //! What is noted of a client.
 
 ghost use Rattle.std.specs.Prelude.{◌≡◌, OnErr, OnOk};
-ghost use Rattle.turn_session_client.specs.Notes.{failed, is_asked, is_last_question, is_question, new_notes, noted, permission_failed, permitted, question_failed, shelved, without_question};
+ghost use Rattle.turn_session_client.specs.Notes.{failed, new_notes, noted, permission_failed, permitted};
+ghost use Rattle.turn_session_client.specs.Notes.{is_asked, is_last_question, is_question, question_failed, shelved, without_question};
 
 use std::alloc::{AllocError, Global};
 use std::net::SocketAddr;

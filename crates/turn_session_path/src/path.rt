@@ -1,7 +1,8 @@
 //! Whether the path to the server still carries packets.
 
 ghost use Rattle.std.specs.Prelude.{◌≡◌};
-ghost use Rattle.turn_session_path.specs.Path.{after_check, after_failure, after_full, after_probing, after_room, after_sending, first_path, probed_every, ticket_of};
+ghost use Rattle.turn_session_path.specs.Path.{after_check, after_failure, after_full, after_probing, after_room, after_sending};
+ghost use Rattle.turn_session_path.specs.Path.{first_path, probed_every, ticket_of};
 
 mod due;
 mod poll;

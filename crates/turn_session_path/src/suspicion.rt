@@ -1,7 +1,8 @@
 //! Whether the server still knows the allocation: a signed request asks it when there is a doubt.
 
 ghost use Rattle.std.specs.Prelude.{◌≡◌};
-ghost use Rattle.turn_session_path.specs.Suspicion.{after_answer, after_doubt, after_move, begin_step, check_deadline, check_time, is_forgotten, no_doubt, pause_after, suspicion_step};
+ghost use Rattle.turn_session_path.specs.Suspicion.{after_answer, after_doubt, after_move, begin_step, check_deadline, check_time};
+ghost use Rattle.turn_session_path.specs.Suspicion.{is_forgotten, no_doubt, pause_after, suspicion_step};
 
 use crate::constants::{
     ALLOCATION_CHECK, ALLOCATION_PAUSE_ENDS, FIRST_ALLOCATION_PAUSE, LAST_ALLOCATION_PAUSE, RUN,
