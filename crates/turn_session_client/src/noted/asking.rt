@@ -1,7 +1,8 @@
 //! Requests of the caller, and what it keeps.
 
 ghost use Rattle.std.specs.Prelude.{◌≡◌, ◌≤◌, ◌^◌, true};
-ghost use Rattle.turn_session_client.specs.Asking.{Answers, Begins, Requests, added, answer_with, begun, grant_of, is_granted, keep_result, known_answer, makes};
+ghost use Rattle.turn_session_client.specs.Asking.{Answers, Begins, Requests, added, answer_with, begun};
+ghost use Rattle.turn_session_client.specs.Asking.{grant_of, is_granted, keep_result, known_answer, makes};
 ghost use Rattle.turn_session_client.specs.Keeping.{keep_step, kept_while_running};
 ghost use Rattle.turn_session_client.specs.Waiting.{must_wait};
 ghost use Rattle.turn_session_book.specs.OpenRequests.{request_for};

@@ -1,7 +1,8 @@
 //! Whether the server still knows the allocation: it is asked in doubt.
 
 ghost use Rattle.std.specs.Prelude.{◌≡◌, ◌≤◌, ◌^◌};
-ghost use Rattle.turn_session_client.specs.Doubting.{AsksNext, AsksNew, PollsDoubts, after_doubt, after_move, doubts_ended, noted_doubts, told_step, with_question};
+ghost use Rattle.turn_session_client.specs.Doubting.{AsksNew, AsksNext, PollsDoubts, after_doubt, after_move, doubts_ended};
+ghost use Rattle.turn_session_client.specs.Doubting.{noted_doubts, told_step, with_question};
 
 use crate::noted::NotedClient;
 use crate::question::{ask, question_ip};
