@@ -1,5 +1,5 @@
 -- Worked runs, with times in nanoseconds: what a session notes when the server refuses a permission.
-use Rattle.std.specs.Prelude.{◌≡◌, List, [], ◌∷◌, Some}
+use Rattle.std.specs.Prelude.{◌≡◌, false, List, [], ◌∷◌, Some}
 use Rattle.std.specs.declared.net.ip_addr.IpAddr.{IpAddr}
 use Rattle.std.specs.declared.net.ip_addr.IpAddr.TheVariants.{V4}
 use Rattle.turn_stun.specs.declared.transport.TransportType.TheVariants.{Udp}
