@@ -1,10 +1,17 @@
-use Rattle.std.proofs.Common.{◌≡◌, Some, sym, ap, ◌∙◌, length, arith}
+use Rattle.std.proofs.Common.{◌≡◌, None, Some, sym, ap, ◌∙◌, length, arith}
 use Rattle.std.specs.Prelude.{Option}
 use Rattle.turn_client_api.specs.declared.event.TurnEvent.{TurnEvent}
 use Rattle.turn_session_client.specs.Drain.{drained, next_event, unnoted}
 use Rattle.turn_session_client.specs.NotedState.{NotedState}
-use Rattle.turn_session_client.proofs.DrainLemmas.{next-drained, next-taken, next-unnoted, noted-drained, noted-fewer, on_err}
+use Rattle.turn_session_client.proofs.DrainLemmas.{next-drained, next-taken, next-unnoted, none-drained, noted-drained, noted-fewer, on_err}
 use Rattle.turn_session_client.proofs.noted.NotedClient.drain.Goals as goal
+
+pub returns-clause-ok : goal.returns-clause-ok
+returns-clause-ok g c =
+    let after : c.next_event.new.self ≡ (next_event c.loop-event.self).1 = ap (λ (x : Option TurnEvent × NotedState). x.1) c.next_event.ensures in
+    let given : c.next_event.result ≡ (next_event c.loop-event.self).0 = ap (λ (x : Option TurnEvent × NotedState). x.0) c.next_event.ensures in
+    let none : c.next_event.result ≡ None = c.in_default.is in
+    after ∙ (none-drained c.args.now c.loop-event.self (sym given ∙ none) ∙ c.loop-event.invariant)
 
 pub returns-in_err-note-clause-err : goal.returns-in_err-note-clause-err
 returns-in_err-note-clause-err g c =
