@@ -24,12 +24,12 @@ own_step s = by (is_open s.noted.life.phase) s.watch.outbox
     by _ _ = (None, s)
 
 -- those of the client come first
+abbrev pub or_own : SessionState → Option (Transmit (List ℕ)) × NotedState → Option (Transmit (List ℕ)) × SessionState
+or_own s (Some packet, noted) = (Some packet, with_noted noted s)
+or_own s (None, noted) = own_step (with_noted noted s)
+
 abbrev pub transmit_step : ℕ → SessionState → Option (Transmit (List ℕ)) × SessionState
-transmit_step now s = by (transmitted now s.noted)
-  where
-    by : Option (Transmit (List ℕ)) × NotedState → Option (Transmit (List ℕ)) × SessionState
-    by (Some packet, noted) = (Some packet, with_noted noted s)
-    by (None, noted) = own_step (with_noted noted s)
+transmit_step now s = or_own s (transmitted now s.noted)
 
 -- ---- without memory
 
