@@ -1,6 +1,5 @@
 -- What a session reports to its caller: results of checks and moves, and then what is noted of its client.
-use Rattle.std.specs.Prelude.{ℕ, Option, Some, None, option_map}
-use Rattle.std.specs.declared.net.socket_addr.SocketAddr.{SocketAddr}
+use Rattle.std.specs.Prelude.{Option, Some, None, option_map}
 use Rattle.turn_session_book.specs.declared.causes.Why.{Why}
 use Rattle.turn_session_book.specs.declared.events.Event.{Event}
 use Rattle.turn_session_book.specs.declared.events.Event.TheVariants as Events

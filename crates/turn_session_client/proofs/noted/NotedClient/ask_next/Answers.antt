@@ -14,9 +14,10 @@ asks-next : (now : ℕ) (inside was : NotedState) → inside ≡ was → (relays
     notes ≡ shelved inside.notes → AsksNew relays ip now (record inside { notes = notes }) s answer → AsksNext now was s answer
 asks-next now inside was same relays ip notes s answer known is-ip new shelves asks =
     let shelved_asks : AsksNew relays ip now (record inside { notes = shelved inside.notes }) s answer =
-      subst (λ (n : Notes). AsksNew relays ip now (record inside { notes = n }) s answer) shelves asks in
-    let known_asks = subst (λ (o : Option TransportType). AsksNew relays ip now (record inside { notes = shelved (record inside.notes { relays = o }) }) s answer)
-      known shelved_asks in
+    subst (λ (n : Notes). AsksNew relays ip now (record inside { notes = n }) s answer) shelves asks in
+    let known_asks =
+    subst (λ (o : Option TransportType). AsksNew relays ip now (record inside { notes = shelved (record inside.notes { relays = o }) }) s answer)
+    known shelved_asks in
     subst (λ (u : NotedState). AsksNext now u s answer) same (rw (known, ← is-ip, new) (inl known_asks))
 
 pub returns : goal.returns
