@@ -1,60 +1,22 @@
--- What ends a session.
-use Rattle.std.specs.Prelude.{ℕ, Bool, true, false, not, ◌&&◌, ◌||◌, if◌then◌else◌, List, Option, None}
-use Rattle.turn_stun.specs.declared.transport.Transmit.{Transmit}
-use Rattle.turn_client_api.specs.Abandon.{abandon_step}
-use Rattle.turn_session_book.specs.declared.causes.Why.{Why}
-use Rattle.turn_session_book.specs.declared.causes.Why.TheVariants.{Closed}
+-- What the caller reports of its socket.
+use Rattle.std.specs.Prelude.{ℕ, if◌then◌else◌}
 use Rattle.turn_session_book.specs.declared.tags.Tag.{Tag}
-use Rattle.turn_session_life.specs.Heard.{has_hint}
-use Rattle.turn_session_life.specs.Life.{after_end, after_ending, after_leave}
-use Rattle.turn_session_life.specs.Verdict.{after_failure}
-use Rattle.turn_session_life.specs.declared.life.Phase.{Phase}
-use Rattle.turn_session_life.specs.declared.life.Phase.TheVariants.{Opening, Open, Over}
-use Rattle.turn_session.specs.SessionState.{SessionState, with_life}
+use Rattle.turn_session_client.specs.Ending.{after_socket_error, is_open}
+use Rattle.turn_session_path.specs.Path as Path
+use Rattle.turn_session.specs.Checking.{told_path}
+use Rattle.turn_session.specs.SessionState.{SessionState, with_noted, with_watch}
 
-abbrev pub is_opening : Phase → Bool
-is_opening Opening = true
-is_opening _ = false
+-- an error makes one doubt the path of an open session too
+abbrev pub path_failed : Tag → ℕ → SessionState → SessionState
+path_failed tag now s = let t = told_path s in with_watch (record t.watch { path = Path.after_failure tag now t.watch.path }) t
 
-abbrev pub is_open : Phase → Bool
-is_open Open = true
-is_open _ = false
+abbrev pub after_failure : Tag → ℕ → SessionState → SessionState
+after_failure tag now s =
+    let t = if is_open s.noted.life.phase then path_failed tag now s else s in
+    with_noted (after_socket_error tag now t.noted) t
 
-abbrev pub is_over : Phase → Bool
-is_over (Over why) = true
-is_over _ = false
+abbrev pub after_full : ℕ → SessionState → SessionState
+after_full now s = let t = told_path s in with_watch (record t.watch { path = Path.after_full now t.watch.path }) t
 
--- at once, with this cause, or with that for which it leaves
-abbrev pub ended : Why → SessionState → SessionState
-ended why s = with_life (after_end why s.life) s
-
--- ---- leaving
-
--- the server may have granted an allocation: it did, or it has challenged the ALLOCATE
-abbrev pub may_be_granted : SessionState → Bool
-may_be_granted s = is_open s.life.phase || s.heard.is_challenged
-
--- the caller leaves: at once too if the ALLOCATE was refused, although nobody signed that
-abbrev pub left : ℕ → SessionState → SessionState
-left now s =
-    if is_open s.life.phase || (s.heard.is_challenged && not (has_hint s.heard)) then with_life (after_leave s.leave_wait now s.life) s
-    else ended Closed s
-
--- the session leaves by itself for this cause
-abbrev pub left_for : Why → ℕ → SessionState → SessionState
-left_for why now s = if may_be_granted s then with_life (after_ending why s.leave_wait now s.life) s else ended why s
-
--- ---- a socket that is closed at once
-
-abbrev pub abandon_result : ℕ → SessionState → Option (Transmit (List ℕ))
-abandon_result now s = if is_over s.life.phase then None else (abandon_step now s.client).0
-
-abbrev pub abandon_state : ℕ → SessionState → SessionState
-abandon_state now s = if is_over s.life.phase then s else ended Closed (record s { client = (abandon_step now s.client).1 })
-
--- ---- errors of the socket
-
--- while the allocation is requested
-abbrev pub after_socket_error : Tag → ℕ → SessionState → SessionState
-after_socket_error tag now s =
-    if is_opening s.life.phase then record s { verdict = record { blame = after_failure tag now s.verdict.blame } } else s
+abbrev pub after_room : SessionState → SessionState
+after_room s = let t = told_path s in with_watch (record t.watch { path = Path.after_room t.watch.path }) t

@@ -1,179 +1,87 @@
--- A session is polled.
-use Rattle.std.specs.Prelude.{◌≡◌, ◌⊎◌, ℕ, min, nat_lt, Bool, true, false, if◌then◌else◌, List, Option, Some, None, is_some}
-use Rattle.turn_stun.specs.declared.transport.Transmit.{Transmit}
-use Rattle.turn_stun.specs.declared.transport.TransportType.{TransportType}
-use Rattle.turn_client_api.specs.Effect.{closed}
-use Rattle.turn_client_api.specs.Poll.{poll_step}
-use Rattle.turn_client_api.specs.State.{State}
-use Rattle.turn_client_api.specs.Transmit.{transmit_step}
+-- A session is polled: first the path, then the doubts of the allocation, and then the client.
+use Rattle.std.specs.Prelude.{◌≡◌, ℕ, min, Bool, true, false, Option, Some, None}
 use Rattle.turn_client_api.specs.declared.poll.TurnPollRet.{TurnPollRet}
-use Rattle.turn_client_api.specs.declared.poll.TurnPollRet.TheVariants.{WaitUntil, Closed}
-use Rattle.turn_session_book.specs.Book.{after_settlement}
-use Rattle.turn_session_book.specs.OpenRequests.{with_progress}
-use Rattle.turn_session_book.specs.declared.answers.Outcome.TheVariants.{NotMade}
-use Rattle.turn_session_book.specs.declared.causes.Why.{Why}
-use Rattle.turn_session_book.specs.declared.causes.Why.TheVariants.{GrantSilent, OutOfMemory}
-use Rattle.turn_session_book.specs.declared.keys.Key.{Key}
-use Rattle.turn_session_book.specs.declared.open_requests.OpenRequest.{OpenRequest}
-use Rattle.turn_session_book.specs.declared.open_requests.Progress.TheVariants.{Queued}
-use Rattle.turn_session_life.specs.Heard.{IsCauseWithoutAddress, cause_of_end, settled}
-use Rattle.turn_session_life.specs.Life.{after_opening}
-use Rattle.turn_session_life.specs.Verdict.{verdict_step}
-use Rattle.turn_session_life.specs.declared.life.Phase.{Phase}
-use Rattle.turn_session_life.specs.declared.life.Phase.TheVariants.{Opening, Leaving, Over}
-use Rattle.turn_session_life.specs.declared.verdict.Blame.{Blame}
-use Rattle.turn_session_life.specs.declared.verdict.VerdictStep.{VerdictStep}
-use Rattle.turn_session_life.specs.declared.verdict.VerdictStep.TheVariants as Verdict
-use Rattle.turn_session.specs.Drain.{drained}
-use Rattle.turn_session.specs.Ending.{ended, is_opening, is_over, left_for}
-use Rattle.turn_session.specs.Leaving.{PollsLeaving, shortage_end}
-use Rattle.turn_session.specs.Making.{made}
-use Rattle.turn_session.specs.SessionState.{SessionState, is_stream, with_book}
-use Rattle.turn_session.specs.Waiting.{next_to_make}
-use Rattle.turn_session.specs.declared.making.Made.{Made}
-use Rattle.turn_session.specs.declared.making.Made.TheVariants as Client
+use Rattle.turn_client_api.specs.declared.poll.TurnPollRet.TheVariants.{WaitUntil}
+use Rattle.turn_session_client.specs.Doubting.{after_doubt, after_move}
+use Rattle.turn_session_client.specs.Doubting as Doubting
+use Rattle.turn_session_client.specs.Ending.{is_open, left_for}
+use Rattle.turn_session_client.specs.Leaving.{shortage_end}
+use Rattle.turn_session_client.specs.Polling as Client
+use Rattle.turn_session_client.specs.declared.noted.doubting.DoubtsPoll.{DoubtsPoll}
+use Rattle.turn_session_client.specs.declared.noted.doubting.DoubtsPoll.TheVariants as Doubts
+use Rattle.turn_session_life.specs.Watch.{after_opening, watch_step}
+use Rattle.turn_session_life.specs.declared.watch.Watch.{Watch}
+use Rattle.turn_session_life.specs.declared.watch.WatchStep.{WatchStep}
+use Rattle.turn_session_life.specs.declared.watch.WatchStep.TheVariants as Path
+use Rattle.turn_session_path.specs.PathDue.{sooner}
+use Rattle.turn_session.specs.Checking.{told_path}
+use Rattle.turn_session.specs.SessionState.{SessionState, NotesAlone, with_noted, with_watch}
 
--- ---- a request that waits is made
+-- a client that waits does so no longer than for this time
+abbrev pub capped : Option ℕ → TurnPollRet → TurnPollRet
+capped (Some own) (WaitUntil time) = WaitUntil (min own time)
+capped own answer = answer
 
--- it waits no longer, or it is not made, which is its outcome
-abbrev pub waiting_made : Key → TransportType → ℕ → SessionState → SessionState
-waiting_made key relays now s = by (made key relays now s.client)
-  where
-    by : Made × State → SessionState
-    by (Client.Queued, client) =
-        record (with_book (record s.notes.book { requests = with_progress key Queued s.notes.book.requests }) s) { client = client }
-    by (Client.Refused error, client) = record (with_book (after_settlement key (NotMade error) s.notes.book) s) { client = client }
-    by (Client.NoMemory, client) = s
+-- ---- the client
 
--- the first of them, if fewer than eight requests of the client are queued
-abbrev pub next_made : ℕ → SessionState → Bool × SessionState
-next_made now s = by s.notes.relays (next_to_make s)
-  where
-    by : Option TransportType → Option OpenRequest → Bool × SessionState
-    by (Some relays) (Some r) = (true, waiting_made r.key relays now s)
-    by _ _ = (false, s)
-
--- ---- without memory
-
--- the request waits on, and the client is as it was, or refused the request
-abbrev pub WaitsOn : Key → TransportType → ℕ → SessionState → SessionState → Type 0
-WaitsOn key relays now was s = (s ≡ was) ⊎ (s ≡ record was { client = (made key relays now was.client).1 })
-
-abbrev pub NextWaitsOn : ℕ → SessionState → SessionState → Type 0
-NextWaitsOn now was s = by was.notes.relays (next_to_make was)
-  where
-    by : Option TransportType → Option OpenRequest → Type 0
-    by (Some relays) (Some r) = WaitsOn r.key relays now was s
-    by _ _ = ⊥
-
--- ---- what is noted first
-
--- once an address is granted the session is open, and the error that was received last belongs to events that are noted
-abbrev pub opened : SessionState → SessionState
-opened s = record s {
-  notes = record s.notes { reply = None };
-  life = if is_some s.notes.relays then after_opening s.life else s.life;
-}
-
--- over a stream, where nothing is lost, a kept grant whose renewal had no response
-abbrev pub silent_grant : SessionState → Option Key
-silent_grant s = if is_stream s.client.transport then s.notes.silent else None
-
--- the verdict, while an address is requested
-abbrev pub verdict_noted : ℕ → SessionState → Bool × SessionState
-verdict_noted now s = by s.life.phase (verdict_step now s.verdict.blame)
-  where
-    by : Phase → VerdictStep → Bool × SessionState
-    by Opening (Verdict.Ended why) = (true, left_for why now s)
-    by _ _ = (false, s)
-
-abbrev pub cause_noted : ℕ → SessionState → Bool × SessionState
-cause_noted now s = by (silent_grant s)
-  where
-    by : Option Key → Bool × SessionState
-    by (Some key) = (true, ended (GrantSilent key) s)
-    by None = verdict_noted now s
-
--- what has happened is noted first
-abbrev pub prepared : ℕ → SessionState → Bool × SessionState
-prepared now s = cause_noted now (opened (drained now s))
-
--- ---- the client is polled
-
--- without an address, and with one
-abbrev pub IsCause : ℕ → SessionState → Why → Type 0
-IsCause now s why = by (is_opening s.life.phase)
-  where
-    by : Bool → Type 0
-    by true = IsCauseWithoutAddress now s.heard why
-    by false = why ≡ cause_of_end s.heard
-
-abbrev pub EndsWithCause : ℕ → SessionState → SessionState → Type 0
-EndsWithCause now was s = (why : Why) × IsCause now was why × (s ≡ ended why was)
-
--- the call is repeated, since memory was wanted for an event
-abbrev pub IsShort : ℕ → TurnPollRet → Type 0
-IsShort now answer = answer ≡ WaitUntil (shortage_end now)
-
--- the client has ended: its last events are noted, and then the session has ended
-abbrev pub Closes : ℕ → SessionState → SessionState → TurnPollRet → Type 0
-Closes now was s answer =
-    ((answer ≡ Closed) × EndsWithCause now (drained now was) s) ⊎ (IsShort now answer × (drained now s ≡ drained now was))
-
--- a client that waits has not ended by a challenge
-abbrev pub waiting : ℕ → ℕ → SessionState → SessionState
-waiting time now s = if nat_lt now time then record s { heard = settled s.heard } else s
-
--- nor does it wait beyond the verdict
-abbrev pub sooner : ℕ → SessionState → ℕ
-sooner time s = by s.life.phase s.verdict.blame
-  where
-    by : Phase → Option Blame → ℕ
-    by Opening (Some blame) = min time blame.until
-    by _ _ = time
-
-abbrev pub AfterPoll : ℕ → TurnPollRet → SessionState → SessionState → TurnPollRet → Type 0
-AfterPoll now (WaitUntil time) was s answer = (answer ≡ WaitUntil (sooner time was)) × (s ≡ waiting time now was)
-AfterPoll now Closed was s answer = Closes now was s answer
-AfterPoll now said was s answer = (answer ≡ said) × (s ≡ was)
-
--- without memory the client has ended
 abbrev pub PollsClient : ℕ → SessionState → SessionState → TurnPollRet → Type 0
-PollsClient now was s answer =
-    let step = poll_step now was.client in
-    AfterPoll now step.0 (record was { client = step.1 }) s answer
-    ⊎ ((answer ≡ Closed) × (s ≡ ended OutOfMemory (record was { client = closed was.client })))
+PollsClient now was s said = Client.Polls now was.noted s.noted said × NotesAlone was s
+
+abbrev pub PollsBoth : Option ℕ → ℕ → SessionState → SessionState → TurnPollRet → Type 0
+PollsBoth own now was s answer = (said : TurnPollRet) × PollsClient now was s said × (answer ≡ capped own said)
+
+-- ---- a session that is not open
+
+-- its path is polled as soon as it opens
+abbrev pub own_time : Bool → ℕ → Option ℕ
+own_time true now = Some now
+own_time false now = None
+
+abbrev pub PollsUnopened : ℕ → SessionState → SessionState → TurnPollRet → Type 0
+PollsUnopened now was s answer = PollsBoth (own_time (is_open s.noted.life.phase) now) now was s answer
+
+-- ---- one that is open
+
+-- its path is probed from then on, and learns what was received
+abbrev pub watched : ℕ → SessionState → SessionState
+watched now s = by s.is_watching
+  where
+    by : Bool → SessionState
+    by true = s
+    by false = record (with_watch (after_opening s.probe s.noted.notes.mapped now s.watch) s) { is_watching = true }
+
+abbrev pub begun : ℕ → SessionState → SessionState
+begun now s = told_path (watched now s)
+
+-- a doubt that could not be asked of, since memory was wanted, is tried again
+abbrev pub DoubtsLead : Option ℕ → ℕ → DoubtsPoll → SessionState → SessionState → TurnPollRet → Type 0
+DoubtsLead path now Doubts.Now t s answer = (answer ≡ WaitUntil now) × (s ≡ t)
+DoubtsLead path now (Doubts.WaitUntil time) t s answer = PollsBoth (sooner path (Some time)) now t s answer
+DoubtsLead path now Doubts.Idle t s answer = PollsBoth path now t s answer
+DoubtsLead path now Doubts.NoMemory t s answer = PollsBoth (sooner path (Some (shortage_end now))) now t s answer
+
+abbrev pub PollsDoubts : Option ℕ → ℕ → SessionState → SessionState → TurnPollRet → Type 0
+PollsDoubts path now was s answer =
+    (t : SessionState) × (said : DoubtsPoll) × Doubting.PollsDoubts now was.noted t.noted said × NotesAlone was t
+    × DoubtsLead path now said t s answer
+
+-- a request or a result of the path is for the caller to take; a doubt, a move and an end are noted
+abbrev pub PathLeads : ℕ → WatchStep × Watch → SessionState → SessionState → TurnPollRet → Type 0
+PathLeads now (Path.Now, after) was s answer = PollsBoth (Some now) now (with_watch after was) s answer
+PathLeads now (Path.WaitUntil time, after) was s answer = PollsDoubts (Some time) now (with_watch after was) s answer
+PathLeads now (Path.Idle, after) was s answer = PollsDoubts None now (with_watch after was) s answer
+PathLeads now (Path.Doubt, after) was s answer = (answer ≡ WaitUntil now) × (s ≡ with_noted (after_doubt was.noted) (with_watch after was))
+PathLeads now (Path.Moved, after) was s answer = (answer ≡ WaitUntil now) × (s ≡ with_noted (after_move was.noted) (with_watch after was))
+PathLeads now (Path.End why, after) was s answer = (answer ≡ WaitUntil now) × (s ≡ with_noted (left_for why now was.noted) (with_watch after was))
+
+abbrev pub PollsOpen : ℕ → SessionState → SessionState → TurnPollRet → Type 0
+PollsOpen now was s answer = let t = begun now was in PathLeads now (watch_step now t.watch) t s answer
 
 -- ---- the call
 
-abbrev pub MadeOrPolled : ℕ → SessionState → Bool × SessionState → SessionState → TurnPollRet → Type 0
-MadeOrPolled now was (true, t) s answer = ((answer ≡ WaitUntil now) × (s ≡ t)) ⊎ (IsShort now answer × NextWaitsOn now was s)
-MadeOrPolled now was (false, t) s answer = PollsClient now t s answer
-
--- a request that waits is made, or else the client is polled
-abbrev pub MakesOrPolls : ℕ → SessionState → SessionState → TurnPollRet → Type 0
-MakesOrPolls now was s answer = MadeOrPolled now was (next_made now was) s answer
-
-abbrev pub PollsNoted : ℕ → Bool × SessionState → SessionState → TurnPollRet → Type 0
-PollsNoted now (true, t) s answer = (answer ≡ WaitUntil now) × (s ≡ t)
-PollsNoted now (false, t) s answer = MakesOrPolls now t s answer
-
-abbrev pub PollsRunning : ℕ → SessionState → SessionState → TurnPollRet → Type 0
-PollsRunning now was s answer =
-    PollsNoted now (prepared now was) s answer ⊎ (IsShort now answer × (drained now s ≡ drained now was))
-
 abbrev pub Polls : ℕ → SessionState → SessionState → TurnPollRet → Type 0
-Polls now was s answer = by was.life.phase
+Polls now was s answer = by (is_open was.noted.life.phase)
   where
-    by : Phase → Type 0
-    by (Over why) = (answer ≡ Closed) × (s ≡ was)
-    by (Leaving leave) = PollsLeaving leave now was s answer
-    by _ = PollsRunning now was s answer
-
--- ---- packets
-
--- those of the client, and none after the end
-abbrev pub transmitted : ℕ → SessionState → Option (Transmit (List ℕ)) × SessionState
-transmitted now s =
-    if is_over s.life.phase then (None, s)
-    else (let step = transmit_step now s.client in (step.0, record s { client = step.1 }))
+    by : Bool → Type 0
+    by true = PollsOpen now was s answer
+    by false = PollsUnopened now was s answer

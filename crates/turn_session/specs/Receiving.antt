@@ -1,90 +1,74 @@
 -- What the server sent, and a session after it.
-use Rattle.std.specs.Prelude.{◌≡◌, ℕ, Bool, true, false, if◌then◌else◌, List, Option, Some, None}
+use Rattle.std.specs.Prelude.{◌≡◌, ℕ, Bool, true, false, ◌&&◌, List, Option, Some}
 use Rattle.std.specs.declared.net.socket_addr.SocketAddr.{SocketAddr}
 use Rattle.turn_stun.specs.declared.transport.TransportType.{TransportType}
+use Rattle.turn_agent.specs.Agent.{same_address}
 use Rattle.turn_client_api.specs.Payloads.{Outcome}
 use Rattle.turn_client_api.specs.Payloads as Outcomes
-use Rattle.turn_client_api.specs.Receive.{recv_step}
+use Rattle.turn_client_api.specs.Receive.{is_from_server, recv_step}
 use Rattle.turn_client_api.specs.State.{State}
-use Rattle.turn_client_api.specs.declared.event.TurnEvent.{TurnEvent}
-use Rattle.turn_session_book.specs.declared.causes.Why.TheVariants.{OutOfMemory}
-use Rattle.turn_session_book.specs.declared.replies.ErrorReply.{ErrorReply}
-use Rattle.turn_session_life.specs.Heard as Heard
-use Rattle.turn_session_life.specs.Life.{after_end, after_heard}
-use Rattle.turn_session_life.specs.Verdict as Verdict
-use Rattle.turn_session_life.specs.declared.life.Phase.{Phase}
-use Rattle.turn_session_life.specs.declared.life.Phase.TheVariants.{Leaving, Over}
-use Rattle.turn_session_life.specs.declared.responses.Response.{Response}
-use Rattle.turn_session_life.specs.declared.verdict.Blame.{Blame}
-use Rattle.turn_session.specs.Drain.{drained}
-use Rattle.turn_session.specs.Reading.{IsReading, hint_in, mapped_after, reply_in, response_to}
-use Rattle.turn_session.specs.SessionState.{SessionState, with_life}
-use Rattle.turn_session.specs.declared.reading.Reading.{Reading}
+use Rattle.turn_session_client.specs.Ending.{is_open}
+use Rattle.turn_session_client.specs.NotedState.{NotedState}
+use Rattle.turn_session_client.specs.Receiving.{ended_with, outcome_in}
+use Rattle.turn_session_client.specs.Receiving as Client
+use Rattle.turn_session_life.specs.Watch.{watched_response}
+use Rattle.turn_session.specs.Checking.{told_path}
+use Rattle.turn_session.specs.PathMessages.{response_in}
+use Rattle.turn_session.specs.SessionState.{SessionState, with_noted, with_watch}
+use Rattle.turn_session.specs.declared.path_messages.PathText.{PathText}
 
-abbrev pub is_taken : Outcome → Bool
-is_taken Outcomes.Handled = true
-is_taken _ = false
+-- ---- a response to a request of the path
 
--- after the end of a session nothing is for it
-abbrev pub outcome_in : Phase → Outcome → Outcome
-outcome_in (Over why) outcome = Outcomes.Ignored
-outcome_in _ outcome = outcome
+abbrev pub is_of_server : TransportType → SocketAddr → SocketAddr → State → Bool
+is_of_server transport from to client = is_from_server transport from client && same_address to client.local
 
--- ---- a response
+-- one with the ID of such a request, after the path has learned what was received before
+abbrev pub answered_path : PathText → ℕ → SessionState → Bool × SessionState
+answered_path r now s =
+    let t = told_path s in let step = watched_response r.id r.mapped now t.watch in (step.0, with_watch step.1 t)
 
--- an unsigned error of the ALLOCATE is the verdict, unless there was one before
-abbrev pub blamed : Option ErrorReply → Bool → ℕ → Option Blame → Option Blame
-blamed None is_challenged now blame = blame
-blamed (Some e) is_challenged now blame = Verdict.after_refusal (Heard.refusal e is_challenged) now blame
-
-abbrev pub noted_response : Response → ℕ → SessionState → SessionState
-noted_response r now s =
-    let heard = Heard.after_response r now s.heard in
-    record s {
-      heard = heard;
-      life = after_heard s.life;
-      verdict = record { blame = blamed (hint_in r) heard.is_challenged now (Verdict.after_response s.verdict.blame) };
-    }
-
-abbrev pub noted_reading : Option Reading → Bool → ℕ → SessionState → SessionState
-noted_reading None taken now s = s
-noted_reading (Some r) taken now s =
-    noted_response (response_to r taken) now (record s { notes = record s.notes { mapped = mapped_after r taken s.notes.mapped } })
-
--- while an earlier event is to be noted, no error is: that event has the one before
-abbrev pub reply_for : Option Reading → SessionState → Option ErrorReply
-reply_for reading s = by s.taken
+abbrev pub path_step : TransportType → SocketAddr → SocketAddr → List ℕ → ℕ → SessionState → Bool × SessionState
+path_step transport from to bytes now s =
+    by (is_open s.noted.life.phase && is_of_server transport from to s.noted.client) (response_in bytes)
   where
-    by : Option TurnEvent → Option ErrorReply
-    by (Some event) = None
-    by None = reply_in reading
+    by : Bool → Option PathText → Bool × SessionState
+    by true (Some r) = answered_path r now s
+    by _ _ = (false, s)
 
--- what the client accepted is the error that was received last
-abbrev pub with_reply : Bool → Option ErrorReply → SessionState → SessionState
-with_reply taken reply s = if taken then record s { notes = record s.notes { reply = reply } } else s
+-- ---- all else is the client's
 
-abbrev pub received : Option Reading → Option ErrorReply → Bool → ℕ → SessionState → SessionState
-received reading reply taken now s = noted_reading reading taken now (with_reply taken reply s)
+abbrev pub noted_outcome : TransportType → SocketAddr → SocketAddr → List ℕ → ℕ → NotedState → Outcome
+noted_outcome transport from to bytes now s = outcome_in s.life.phase (recv_step transport from to bytes now s.client).0
 
--- ---- the call, before the events of the client are noted
+-- what the client does not ignore shows that the path carries packets
+abbrev pub with_sign : Outcome → ℕ → SessionState → SessionState
+with_sign Outcomes.Ignored now s = s
+with_sign outcome now s = record s { received = Some now }
 
-abbrev pub heard_step : TransportType → SocketAddr → SocketAddr → List ℕ → Option Reading → ℕ → SessionState → SessionState
-heard_step transport from to bytes reading now s =
-    let step = recv_step transport from to bytes now s.client in
-    received reading (reply_for reading s) (is_taken step.0) now (record s { client = step.1 })
+abbrev pub Passes : TransportType → SocketAddr → SocketAddr → List ℕ → ℕ → SessionState → SessionState → Type 0
+Passes transport from to bytes now was s =
+    Client.Receives transport from to bytes now was.noted s.noted
+    × (s ≡ with_sign (noted_outcome transport from to bytes now was.noted) now (with_noted s.noted was))
 
--- a session that leaves notes nothing, and after its end nothing changes
+-- ---- the call
+
+abbrev pub outcome_by : Bool × SessionState → TransportType → SocketAddr → SocketAddr → List ℕ → ℕ → Outcome
+outcome_by (true, t) transport from to bytes now = Outcomes.Handled
+outcome_by (false, t) transport from to bytes now = noted_outcome transport from to bytes now t.noted
+
+abbrev pub outcome_after : TransportType → SocketAddr → SocketAddr → List ℕ → ℕ → SessionState → Outcome
+outcome_after transport from to bytes now s =
+    outcome_by (path_step transport from to bytes now s) transport from to bytes now
+
+abbrev pub ReceivesBy : Bool × SessionState → TransportType → SocketAddr → SocketAddr → List ℕ → ℕ → SessionState → Type 0
+ReceivesBy (true, t) transport from to bytes now s = s ≡ t
+ReceivesBy (false, t) transport from to bytes now s = Passes transport from to bytes now t s
+
 abbrev pub Receives : TransportType → SocketAddr → SocketAddr → List ℕ → ℕ → SessionState → SessionState → Type 0
-Receives transport from to bytes now was s = by was.life.phase
-  where
-    by : Phase → Type 0
-    by (Over why) = s ≡ was
-    by (Leaving leave) = s ≡ record was { client = (recv_step transport from to bytes now was.client).1 }
-    by _ = (reading : Option Reading) × IsReading bytes was.client reading
-        × (drained now s ≡ drained now (heard_step transport from to bytes reading now was))
+Receives transport from to bytes now was s =
+    ReceivesBy (path_step transport from to bytes now was) transport from to bytes now s
 
--- ---- without memory
-
--- the client has ended in this state, and the session with it
-abbrev pub ended_with : State → SessionState → SessionState
-ended_with client s = with_life (after_end OutOfMemory s.life) (record s { client = client })
+-- without memory the client has ended in this state, and the session with it
+abbrev pub Ends : TransportType → SocketAddr → SocketAddr → List ℕ → ℕ → SessionState → SessionState → Type 0
+Ends transport from to bytes now was s =
+    let t = (path_step transport from to bytes now was).1 in s ≡ with_noted (ended_with s.noted.client t.noted) t

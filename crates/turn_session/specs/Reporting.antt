@@ -1,61 +1,44 @@
--- What a session reports to its caller: what was noted, and at its end the cause, an outcome for each request, and the end.
-use Rattle.std.specs.Prelude.{Bool, true, false, drop, slice_get, Option, Some, None}
-use Rattle.std.specs.Option.{option_map}
-use Rattle.turn_session_book.specs.OpenRequests.{without_oldest}
-use Rattle.turn_session_book.specs.declared.answers.Outcome.TheVariants.{Ended}
+-- What a session reports to its caller: results of checks and moves, and then what is noted of its client.
+use Rattle.std.specs.Prelude.{Option, Some, None, option_map}
 use Rattle.turn_session_book.specs.declared.causes.Why.{Why}
 use Rattle.turn_session_book.specs.declared.events.Event.{Event}
-use Rattle.turn_session_book.specs.declared.events.Event.TheVariants.{Heard, Ending, Outcome, Over}
-use Rattle.turn_session_book.specs.declared.open_requests.OpenRequest.{OpenRequest}
-use Rattle.turn_session_life.specs.Life.{cause_in, ending_report, is_due, over_report, reported}
-use Rattle.turn_session.specs.SessionState.{SessionState, with_book, with_life}
+use Rattle.turn_session_book.specs.declared.events.Event.TheVariants as Events
+use Rattle.turn_session_client.specs.Reporting as Client
+use Rattle.turn_session_life.specs.Life.{cause_in}
+use Rattle.turn_session_life.specs.Watch.{given_up, taken_move, taken_result}
+use Rattle.turn_session_life.specs.declared.watch.Checked.{Checked}
+use Rattle.turn_session.specs.SessionState.{SessionState, with_noted, with_watch}
 
 -- an event that is reported, or else the next one
 abbrev pub or_next : Option Event × SessionState → (SessionState → Option Event × SessionState) → Option Event × SessionState
 or_next (Some event, s) next = (Some event, s)
 or_next (None, s) next = next s
 
--- ---- each kind
+abbrev pub checked_event : Checked → Event
+checked_event c = Events.Checked c.ticket c.is_answered c.mapped
 
-abbrev pub heard_reported : SessionState → Option Event × SessionState
-heard_reported s = (by (is_due s.life.heard), with_life (record s.life { heard = reported s.life.heard }) s)
+abbrev pub result_reported : SessionState → Option Event × SessionState
+result_reported s = let step = taken_result s.watch in (option_map checked_event step.0, with_watch step.1 s)
+
+-- a check that is under way when the session leaves or has ended has no response
+abbrev pub unsettled_check : SessionState → Option Checked × SessionState
+unsettled_check s = by (cause_in s.noted.life.phase)
   where
-    by : Bool → Option Event
-    by true = Some Heard
-    by false = None
-
--- what was noted, the oldest first
-abbrev pub noted_reported : SessionState → Option Event × SessionState
-noted_reported s =
-    (slice_get s.notes.book.events 0, with_book (record s.notes.book { events = drop 1 s.notes.book.events }) s)
-
-abbrev pub ending_reported : SessionState → Option Event × SessionState
-ending_reported s = let step = ending_report s.life in (option_map Ending step.0, with_life step.1 s)
-
--- the requests that have no outcome have this one, the oldest first
-abbrev pub ended_event : Why → OpenRequest → Event
-ended_event why r = Outcome r.ticket r.key (Ended why)
-
-abbrev pub reported_outcome : Why → SessionState → Option Event × SessionState
-reported_outcome why s = (
-  option_map (ended_event why) (slice_get s.notes.book.requests 0),
-  with_book (record s.notes.book { requests = without_oldest s.notes.book.requests }) s,
-)
-
-abbrev pub over_reported : SessionState → Option Event × SessionState
-over_reported s = let step = over_report s.life in (option_map Over step.0, with_life step.1 s)
-
--- ---- in this order
-
-abbrev pub reported_end : Why → SessionState → Option Event × SessionState
-reported_end why s = or_next (ending_reported s) (λ t. or_next (reported_outcome why t) over_reported)
-
-abbrev pub reported_if : SessionState → Option Event × SessionState
-reported_if s = by (cause_in s.life.phase)
-  where
-    by : Option Why → Option Event × SessionState
+    by : Option Why → Option Checked × SessionState
     by None = (None, s)
-    by (Some why) = reported_end why s
+    by (Some why) = let step = given_up s.watch in (step.0, with_watch step.1 s)
+
+abbrev pub unsettled_reported : SessionState → Option Event × SessionState
+unsettled_reported s = let step = unsettled_check s in (option_map checked_event step.0, step.1)
+
+abbrev pub move_reported : SessionState → Option Event × SessionState
+move_reported s = let step = taken_move s.watch in (option_map Events.Moved step.0, with_watch step.1 s)
+
+abbrev pub path_event : SessionState → Option Event × SessionState
+path_event s = or_next (result_reported s) (λ t. or_next (unsettled_reported t) move_reported)
+
+abbrev pub noted_reported : SessionState → Option Event × SessionState
+noted_reported s = let step = Client.reported_step s.noted in (step.0, with_noted step.1 s)
 
 abbrev pub reported_step : SessionState → Option Event × SessionState
-reported_step s = or_next (heard_reported s) (λ t. or_next (noted_reported t) reported_if)
+reported_step s = or_next (path_event s) noted_reported

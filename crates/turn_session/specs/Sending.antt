@@ -1,16 +1,40 @@
--- Data for a peer.
-use Rattle.std.specs.Prelude.{ℕ, if◌then◌else◌, List, Result, Err}
-use Rattle.std.specs.declared.net.socket_addr.SocketAddr.{SocketAddr}
+-- Packets for the server.
+use Rattle.std.specs.Prelude.{◌≡◌, ◌⊎◌, ℕ, Bool, true, List, Option, Some, None}
 use Rattle.turn_stun.specs.declared.transport.Transmit.{Transmit}
-use Rattle.turn_stun.specs.declared.transport.TransportType.{TransportType}
-use Rattle.turn_client_api.specs.Calls.{send_to_step}
-use Rattle.turn_client_api.specs.declared.error.SendError.{SendError}
-use Rattle.turn_client_api.specs.declared.error.SendError.TheVariants.{NoAllocation}
-use Rattle.turn_session.specs.Ending.{is_over}
-use Rattle.turn_session.specs.SessionState.{SessionState}
+use Rattle.turn_client_api.specs.Effect.{closed}
+use Rattle.turn_client_api.specs.State.{State}
+use Rattle.turn_session_book.specs.declared.causes.Why.TheVariants.{OutOfMemory}
+use Rattle.turn_session_client.specs.Ending.{ended, is_open}
+use Rattle.turn_session_client.specs.NotedState.{NotedState}
+use Rattle.turn_session_client.specs.Polling.{transmitted}
+use Rattle.turn_session_life.specs.declared.watch.OwnRequest.{OwnRequest}
+use Rattle.turn_session.specs.PathMessages.{request_bytes}
+use Rattle.turn_session.specs.SessionState.{SessionState, with_noted, with_watch}
 
--- the client carries it; after the end there is no allocation
-abbrev pub sent_step : TransportType → SocketAddr → List ℕ → ℕ → SessionState → Result (Transmit (List ℕ)) SendError × SessionState
-sent_step transport peer bytes now s =
-    if is_over s.life.phase then (Err NoAllocation, s)
-    else (let step = send_to_step transport peer bytes now s.client in (step.0, record s { client = step.1 }))
+abbrev pub own_packet : OwnRequest → State → Transmit (List ℕ)
+own_packet r client =
+    record { payload = request_bytes r; transport = client.transport; from = client.local; to = client.remote }
+
+-- a request of the path is sent while the session is open, to the server, as the client's are
+abbrev pub own_step : SessionState → Option (Transmit (List ℕ)) × SessionState
+own_step s = by (is_open s.noted.life.phase) s.watch.outbox
+  where
+    by : Bool → Option OwnRequest → Option (Transmit (List ℕ)) × SessionState
+    by true (Some r) = (Some (own_packet r s.noted.client), with_watch (record s.watch { outbox = None }) s)
+    by _ _ = (None, s)
+
+-- those of the client come first
+abbrev pub or_own : SessionState → Option (Transmit (List ℕ)) × NotedState → Option (Transmit (List ℕ)) × SessionState
+or_own s (Some packet, noted) = (Some packet, with_noted noted s)
+or_own s (None, noted) = own_step (with_noted noted s)
+
+abbrev pub transmit_step : ℕ → SessionState → Option (Transmit (List ℕ)) × SessionState
+transmit_step now s = or_own s (transmitted now s.noted)
+
+-- ---- without memory
+
+-- the client has ended, and the session with it; or it has nothing to send, and a request of the path is still to be sent
+abbrev pub EndsUnsent : ℕ → SessionState → SessionState → Type 0
+EndsUnsent now was s =
+    (s ≡ with_noted (ended OutOfMemory (record was.noted { client = closed was.noted.client })) was)
+    ⊎ (((transmitted now was.noted).0 ≡ None) × (s ≡ with_noted (transmitted now was.noted).1 was))

@@ -1,52 +1,43 @@
--- A session: its client, and what it notes.
-use Rattle.std.specs.Prelude.{ℕ, Bool, true, false, Option, None}
-use Rattle.turn_stun.specs.declared.transport.TransportType.{TransportType}
-use Rattle.turn_stun.specs.declared.transport.TransportType.TheVariants.{Udp, Tcp}
+-- A session: its client with what is noted of it, and the checks of the path.
+use Rattle.std.specs.Prelude.{◌≡◌, ℕ, Bool, false, List, Option, None}
+use Rattle.std.specs.Duration.{as_nanos}
 use Rattle.turn_client_api.specs.State.{State}
-use Rattle.turn_client_api.specs.declared.event.TurnEvent.{TurnEvent}
-use Rattle.turn_session_book.specs.BookState.{BookState}
-use Rattle.turn_session_life.specs.Heard.{nothing_heard}
-use Rattle.turn_session_life.specs.Life.{new_life}
-use Rattle.turn_session_life.specs.declared.heard.Heard.{Heard}
-use Rattle.turn_session_life.specs.declared.life.Life.{Life}
-use Rattle.turn_session_life.specs.declared.verdict.Verdict.{Verdict}
-use Rattle.turn_session.specs.Notes.{new_notes}
-use Rattle.turn_session.specs.declared.notes.Notes.{Notes}
+use Rattle.turn_session_client.specs.NotedState.{NotedState, new_noted}
+use Rattle.turn_session_life.specs.Watch.{watching}
+use Rattle.turn_session_life.specs.declared.watch.Watch.{Watch}
+use Rattle.turn_session.specs.Settings.{probe_nanos}
+use Rattle.turn_session.specs.declared.settings.SessionSettings.{SessionSettings}
 
 pub record SessionState : Type 0 where
-  pub client : State
-  pub notes : Notes
-  -- an event of the client that is noted next: memory was wanted for it
-  pub taken : Option TurnEvent
-  -- the ticket of the next request
-  pub next_ticket : ℕ
-  -- what the server has said of the allocation
-  pub heard : Heard
-  -- what refuses it while it is requested
-  pub verdict : Verdict
-  -- how far the session has come
-  pub life : Life
-  -- how long leaving takes at most, in nanoseconds
-  pub leave_wait : ℕ
+  -- the client, its requests and grants, and how far the session has come
+  pub noted : NotedState
+  -- the path to the server
+  pub watch : Watch
+  -- the time between two probes of it
+  pub probe : Option ℕ
+  -- whether it is probed, since the session is open
+  pub is_watching : Bool
+  -- when something was received that the path was not told of
+  pub received : Option ℕ
+  -- the ticket of the next check of the caller
+  pub next_check : ℕ
 
-abbrev pub is_stream : TransportType → Bool
-is_stream Udp = false
-is_stream Tcp = true
-
-abbrev pub new_session : ℕ → ℕ → State → SessionState
-new_session leave_wait now client = record {
-  client = client;
-  notes = new_notes;
-  taken = None;
-  next_ticket = 1;
-  heard = nothing_heard now;
-  verdict = record { blame = None };
-  life = new_life (is_stream client.transport);
-  leave_wait = leave_wait;
+abbrev pub new_session : SessionSettings → List ℕ → ℕ → State → SessionState
+new_session settings seed now client = record {
+  noted = new_noted settings.checks_allocation (as_nanos settings.leave_wait) now client;
+  watch = watching client.transport None (record { seed = seed; place = 0 }) now;
+  probe = probe_nanos settings.probe;
+  is_watching = false;
+  received = None;
+  next_check = 1;
 }
 
-abbrev pub with_book : BookState → SessionState → SessionState
-with_book book s = record s { notes = record s.notes { book = book } }
+abbrev pub with_noted : NotedState → SessionState → SessionState
+with_noted noted s = record s { noted = noted }
 
-abbrev pub with_life : Life → SessionState → SessionState
-with_life life s = record s { life = life }
+abbrev pub with_watch : Watch → SessionState → SessionState
+with_watch watch s = record s { watch = watch }
+
+-- nothing but its client has changed, and what is noted of that
+abbrev pub NotesAlone : SessionState → SessionState → Type 0
+NotesAlone was s = s ≡ with_noted s.noted was

@@ -1,7 +1,8 @@
 -- The settings that a session has unless its caller changes them.
-use Rattle.std.specs.Prelude.{◌≡◌, ℕ, false, Option, Some, None}
+use Rattle.std.specs.Prelude.{◌≡◌, ℕ, ◌-◌, ◌^◌, min, false, Option, Some, None}
 use Rattle.std.specs.Option.{option_map}
 use Rattle.std.specs.Duration.{as_nanos}
+use Rattle.std.specs.declared.time.Duration.{Duration}
 use Rattle.turn_stun.specs.declared.transport.TransportType.{TransportType}
 use Rattle.turn_stun.specs.declared.transport.TransportType.TheVariants.{Udp, Tcp}
 use Rattle.turn_session.specs.declared.settings.SessionSettings.{SessionSettings}
@@ -16,3 +17,7 @@ pub record AreDefault (transport : TransportType) (s : SessionSettings) : Type 0
   pub checks_no_allocation : s.checks_allocation ≡ false
   pub no_peer_is_idle : s.idle ≡ None
   pub leaves_in_2_s : as_nanos s.leave_wait ≡ 2_000_000_000
+
+-- the time between two probes, in nanoseconds
+abbrev pub probe_nanos : Option Duration → Option ℕ
+probe_nanos probe = option_map (λ time. min (as_nanos time) (2 ^ 64 - 1)) probe

@@ -1,87 +1,108 @@
 //! A session of a client.
 
 ghost use Rattle.std.specs.Prelude.{◌≡◌};
-ghost use Rattle.std.specs.Duration.{as_nanos};
 ghost use Rattle.turn_session.specs.SessionState.{new_session};
+ghost use Rattle.turn_session.specs.Settings.{probe_nanos};
 
 mod asking;
+mod checking;
 mod data;
-mod draining;
 mod ending;
-mod leaving;
+mod next;
 mod polling;
 mod receiving;
 mod reporting;
-mod waiting;
+mod sending;
 
-use crate::notes::Notes;
 use crate::settings::SessionSettings;
 use std::alloc::Global;
 use std::marker::Model;
 use std::time::Duration;
-use turn_client_api::{TurnClientApi, TurnEvent};
-use turn_session_life::heard::Heard;
-use turn_session_life::life::Life;
-use turn_session_life::verdict::Verdict;
+use turn_agent::NumberSource;
+use turn_client_api::TurnClientApi;
+use turn_session_client::noted::NotedClient;
+use turn_session_life::watch::Watch;
 use turn_stun::instant::Instant;
-use turn_types::TransportType;
 
-/// A client from its first request to its end, and what is noted of it: the requests of the caller, which have one outcome each, what
-/// was granted, what the server has said of the allocation, and why the session ends.
+/// A client from its first request to its end: the requests of the caller, which have one outcome each, what was granted, whether the
+/// path to the server carries packets, whether the server still knows the allocation, and why the session ends.
 ///
-/// Contracts describe it by its client's `State` and the notes.
+/// Contracts describe it by its `SessionState`.
 #[derive(Debug, Drop)]
 pub struct Session<C: TurnClientApi> {
-    client: C,
-    notes: Notes,
-    taken: Option<TurnEvent>,
-    next_ticket: u32,
-    heard: Heard,
-    verdict: Verdict,
-    life: Life,
-    leave_wait: Duration,
+    alloc: Global,
+    noted: NotedClient<C>,
+    watch: Watch,
+    /// The time between two probes of the path, in nanoseconds.
+    probe: Option<u64>,
+    /// Whether the session was open when it was last polled, so that its path is probed.
+    is_watching: bool,
+    /// When something was last received that the path was not told of. So data of a peer costs a store.
+    received: Option<Instant>,
+    next_check: u32,
 }
 
 impl<C: TurnClientApi> Model for Session<C> {
-    ghost use Rattle.std.specs.Duration.{as_nanos};
     ghost use Rattle.turn_session.specs.SessionState.{SessionState};
 
     ghost Value = { SessionState };
 
     ghost view = { λ s. record {
-      client = C.state s.client;
-      notes = s.notes;
-      taken = s.taken;
-      next_ticket = s.next_ticket;
-      heard = s.heard;
-      verdict = s.verdict;
-      life = s.life;
-      leave_wait = as_nanos s.leave_wait;
+      noted = s.noted;
+      watch = s.watch;
+      probe = s.probe;
+      is_watching = s.is_watching;
+      received = s.received;
+      next_check = s.next_check;
     } };
 }
 
 impl<C: TurnClientApi> Session<C> {
-    /// A session of this client, which was not called yet, with these settings. It begins now.
-    pub fn new(alloc: Global, client: C, settings: SessionSettings, now: Instant) -> Session<C>
-        ensures { result ≡ new_session (as_nanos settings.leave_wait) now (C.state client) }
+    /// A session of this client, which was not called yet, with these settings. It begins now. From the seed come the transaction IDs of
+    /// the checks of the path: nobody else may be able to guess it, nor may it be that of the client (RFC 8489, section 5).
+    pub fn new(
+        alloc: Global,
+        client: C,
+        settings: SessionSettings,
+        seed: [u8; 32],
+        now: Instant,
+    ) -> Session<C>
+        ensures { result ≡ new_session settings seed now (C.state client) }
     {
-        let is_stream = matches!(client.transport(), TransportType::Tcp);
-        Session {
+        let transport = client.transport();
+        let noted = NotedClient::new(
+            alloc,
             client,
-            notes: Notes::new(alloc),
-            taken: None,
-            next_ticket: 1,
-            heard: Heard::new(now),
-            verdict: Verdict::new(),
-            life: Life::new(is_stream),
-            leave_wait: settings.leave_wait,
+            settings.checks_allocation,
+            settings.leave_wait,
+            now,
+        );
+        let ids = NumberSource::from_seed(seed);
+        Session {
+            alloc,
+            noted,
+            watch: Watch::new(transport, None, ids, now),
+            probe: nanos_of(settings.probe),
+            is_watching: false,
+            received: None,
+            next_check: 1,
         }
     }
 
     /// The client.
     pub fn client(&self) -> &C
-        ensures { C.state result.now ≡ self.now.client }
+        ensures { C.state result.now ≡ self.now.noted.client }
     {
-        &self.client
+        self.noted.client()
+    }
+}
+
+/// The time between two probes in nanoseconds, of which 2^64 - 1 are the most.
+fn nanos_of(probe: Option<Duration>) -> Option<u64>
+    ensures { result ≡ probe_nanos probe }
+{
+    match probe {
+        Some(time) => Some(u64::try_from(time.as_nanos()).unwrap_or(u64::MAX)),
+        None => None,
     }
 }

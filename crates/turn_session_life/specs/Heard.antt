@@ -6,6 +6,8 @@ use Rattle.turn_session_book.specs.declared.causes.Why.{Why}
 use Rattle.turn_session_book.specs.declared.causes.Why.TheVariants.{Silent, Refused, WrongCredentials, Unauthenticated, NoUsableAddress}
 use Rattle.turn_session_book.specs.declared.causes.Why.TheVariants.{TooManyChallenges, NotRenewed, ShortRenewal, RenewalSilent, Forgotten}
 use Rattle.turn_session_book.specs.declared.replies.ErrorReply.{ErrorReply}
+use Rattle.turn_session_path.specs.Suspicion.{is_forgotten}
+use Rattle.turn_session_life.specs.declared.heard.Challenge.{Challenge}
 use Rattle.turn_session_life.specs.declared.heard.Heard.{Heard}
 use Rattle.turn_session_life.specs.declared.responses.Asked.{Asked}
 use Rattle.turn_session_life.specs.declared.responses.Asked.TheVariants.{Allocate, Refresh, Other}
@@ -41,10 +43,6 @@ is_challenge e = has_code 401 e || has_code 438 e
 abbrev pub is_credentials : ErrorReply → Bool
 is_credentials e = has_code 400 e || has_code 401 e
 
--- the allocation is not known: 437 (RFC 8656, section 8.2), and some servers say 400
-abbrev pub is_forgotten : ErrorReply → Bool
-is_forgotten e = has_code 400 e || has_code 437 e
-
 -- ---- responses
 
 -- any response to a request is a sign of the server
@@ -58,9 +56,12 @@ after_grant Refresh lifetime h = record h { refresh_error = None; renewed_for = 
 after_grant Other lifetime h = h
 
 -- the client answers a challenge, and so nothing has failed
+abbrev pub challenge_of : ErrorReply → Bool → Challenge
+challenge_of e is_first = record { error = e; is_first = is_first }
+
 abbrev pub after_challenge : Asked → ErrorReply → Heard → Heard
-after_challenge Allocate e h = record h { challenge = e.code; is_challenged = true }
-after_challenge _ e h = record h { challenge = e.code }
+after_challenge Allocate e h = record h { challenge = Some (challenge_of e (not h.is_challenged)); is_challenged = true }
+after_challenge _ e h = record h { challenge = Some (challenge_of e false) }
 
 abbrev pub after_error : Asked → ErrorReply → Heard → Heard
 after_error Allocate e h = record h { allocate_error = Some e }
@@ -88,6 +89,14 @@ has_hint h = option_map_or (λ e. not e.is_taken) h.allocate_error false
 abbrev pub refusal : ErrorReply → Bool → Why
 refusal e is_challenged = if is_challenged && is_credentials e then WrongCredentials e else Refused e
 
+-- a client has ended by a challenge that was one too many, or by the first one, which it could not answer
+abbrev pub end_by : Challenge → Why
+end_by c = by c.is_first c.error.code
+  where
+    by : Bool → Option ℕ → Why
+    by false (Some code) = TooManyChallenges code
+    by _ _ = Refused c.error
+
 -- without an address: the last error, a challenge too many, a success without a challenge or without an address that was requested,
 -- or silence since the last response
 abbrev pub IsCauseWithoutAddress : ℕ → Heard → Why → Type 0
@@ -97,9 +106,9 @@ IsCauseWithoutAddress now h why = by h.allocate_error h.challenge h.is_allocated
     silent (Silent time) = as_nanos time ≡ now - h.since
     silent _ = ⊥
 
-    by : Option ErrorReply → Option ℕ → Bool → Bool → Why → Type 0
+    by : Option ErrorReply → Option Challenge → Bool → Bool → Why → Type 0
     by (Some e) _ _ challenged why = why ≡ refusal e challenged
-    by None (Some code) _ _ why = why ≡ TooManyChallenges code
+    by None (Some c) _ _ why = why ≡ end_by c
     by None None true true why = why ≡ NoUsableAddress
     by None None true false why = why ≡ Unauthenticated
     by None None false _ why = silent why
@@ -112,7 +121,7 @@ renewal_cause (Some lifetime) = if nat_lt lifetime 600 then ShortRenewal lifetim
 abbrev pub cause_of_end : Heard → Why
 cause_of_end h = by h.challenge h.refresh_error
   where
-    by : Option ℕ → Option ErrorReply → Why
-    by (Some code) _ = TooManyChallenges code
-    by None (Some e) = if is_forgotten e then Forgotten e else NotRenewed e
+    by : Option Challenge → Option ErrorReply → Why
+    by (Some c) _ = end_by c
+    by None (Some e) = if is_forgotten e.code then Forgotten e else NotRenewed e
     by None None = renewal_cause h.renewed_for

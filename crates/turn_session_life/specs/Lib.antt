@@ -1,3 +1,4 @@
+pub mod Doubts
 pub mod Heard
 pub mod Life
 pub mod Verdict

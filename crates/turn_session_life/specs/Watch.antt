@@ -4,11 +4,12 @@ use Rattle.std.specs.declared.net.socket_addr.SocketAddr.{SocketAddr}
 use Rattle.turn_agent.specs.TransactionIds.{Source}
 use Rattle.turn_stun.specs.declared.transport.TransportType.{TransportType}
 use Rattle.turn_session_book.specs.Keys.{same_peer}
-use Rattle.turn_session_path.specs.Path.{after_check, first_path, ticket_of}
+use Rattle.turn_session_path.specs.Path.{after_check, after_probing, first_path, ticket_of}
 use Rattle.turn_session_path.specs.PathDue.{path_due}
 use Rattle.turn_session_path.specs.PathPoll.{path_step}
 use Rattle.turn_session_path.specs.PathResponses.{respond_step}
 use Rattle.turn_session_path.specs.declared.path.Path.{Path}
+use Rattle.turn_session_path.specs.declared.path.PathCheck.{PathCheck}
 use Rattle.turn_session_path.specs.declared.path.PathResponse.{PathResponse}
 use Rattle.turn_session_path.specs.declared.path.PathResponse.TheVariants as Responses
 use Rattle.turn_session_path.specs.declared.path.PathTask.{PathTask}
@@ -17,11 +18,15 @@ use Rattle.turn_session_life.specs.declared.watch.Checked.{Checked}
 use Rattle.turn_session_life.specs.declared.watch.OwnRequest.{OwnRequest}
 use Rattle.turn_session_life.specs.declared.watch.Watch.{Watch}
 use Rattle.turn_session_life.specs.declared.watch.WatchStep.{WatchStep}
-use Rattle.turn_session_life.specs.declared.watch.WatchStep.TheVariants.{Now, WaitUntil, Idle, Doubt, End}
+use Rattle.turn_session_life.specs.declared.watch.WatchStep.TheVariants.{Now, WaitUntil, Idle, Doubt, Moved, End}
 
 abbrev pub watching : TransportType → Option ℕ → Source → ℕ → Watch
 watching transport every ids now =
-    record { path = first_path transport every ids now; outbox = None; result = None; mapped = None; moved = None }
+    record { path = first_path transport every ids now; outbox = None; result = None; mapped = None; moved = None; is_moved = false }
+
+-- the path of an open session is probed, and its moves are seen from this address on
+abbrev pub after_opening : Option ℕ → Option SocketAddr → ℕ → Watch → Watch
+after_opening every mapped now w = record w { path = after_probing every now w.path; mapped = mapped }
 
 abbrev pub with_path : Path → Watch → Watch
 with_path path w = record w { path = path }
@@ -64,24 +69,23 @@ abbrev pub after_poll : Option PathTask → Watch → WatchStep × Watch
 after_poll (Some task) w = after_task task w
 after_poll None w = (next_wait w, w)
 
--- a request that was not sent yet comes first
+-- a move comes first, and then a request that was not sent yet
 abbrev pub watch_step : ℕ → Watch → WatchStep × Watch
 watch_step now w =
-    if is_some w.outbox then (Now, w) else (let step = path_step now w.path in after_poll step.0 (with_path step.1 w))
+    if w.is_moved then (Moved, record w { is_moved = false })
+    else (if is_some w.outbox then (Now, w)
+    else (let step = path_step now w.path in after_poll step.0 (with_path step.1 w)))
 
 -- ---- responses
 
-abbrev pub moved_from : Option SocketAddr → SocketAddr → Option SocketAddr → Option SocketAddr
-moved_from None address moved = moved
-moved_from (Some before) address moved = if same_peer before address then moved else Some address
-
 -- another address than the one before is a move
+abbrev pub moved_from : Option SocketAddr → SocketAddr → Watch → Watch
+moved_from None address w = w
+moved_from (Some before) address w = if same_peer before address then w else record w { moved = Some address; is_moved = true }
+
 abbrev pub after_look : Option SocketAddr → Watch → Watch
 after_look None w = w
-after_look (Some address) w = record w { mapped = Some address; moved = moved_from w.mapped address w.moved }
-
-abbrev pub after_mapped : Option SocketAddr → Watch → Watch
-after_mapped mapped w = record w { mapped = mapped }
+after_look (Some address) w = record (moved_from w.mapped address w) { mapped = Some address }
 
 abbrev pub after_path_response : PathResponse → Option SocketAddr → Watch → Bool × Watch
 after_path_response Responses.Other mapped w = (false, w)
@@ -104,3 +108,11 @@ taken_result w = (w.result, record w { result = None })
 
 abbrev pub taken_move : Watch → Option SocketAddr × Watch
 taken_move w = (w.moved, record w { moved = None })
+
+-- a check that is under way had no response
+abbrev pub given_up : Watch → Option Checked × Watch
+given_up w = by w.path.check
+  where
+    by : Option PathCheck → Option Checked × Watch
+    by None = (None, w)
+    by (Some check) = (Some (unanswered_check check.ticket), with_path (record w.path { check = None }) w)

@@ -1,12 +1,13 @@
 //! What the server has said of the allocation, and why it ends.
 
 ghost use Rattle.std.specs.Prelude.{◌≡◌};
-ghost use Rattle.turn_session_life.specs.Heard.{IsCauseWithoutAddress, after_denial, after_grant, after_response, after_sign};
-ghost use Rattle.turn_session_life.specs.Heard.{has_hint, is_challenge, is_credentials, is_forgotten, cause_of_end, nothing_heard, refusal, settled};
+ghost use Rattle.turn_session_life.specs.Heard.{IsCauseWithoutAddress, after_challenge, after_denial, after_grant, after_response, after_sign};
+ghost use Rattle.turn_session_life.specs.Heard.{has_hint, is_challenge, is_credentials, cause_of_end, end_by, nothing_heard, refusal, settled};
 
 use crate::responses::{Asked, Response, Said};
 use turn_session_book::causes::Why;
 use turn_session_book::replies::ErrorReply;
+use turn_session_path::suspicion::is_forgotten;
 use turn_stun::attribute::error_code::ErrorCode;
 use turn_stun::instant::Instant;
 
@@ -30,8 +31,17 @@ pub struct Heard {
     pub refresh_error: Option<ErrorReply>,
     /// For how many seconds the last REFRESH was granted.
     pub renewed_for: Option<u32>,
-    /// The code of the challenge that was received last, while the client may have ended by it.
-    pub challenge: Option<u16>,
+    /// The challenge that was received last, while the client may have ended by it.
+    pub challenge: Option<Challenge>,
+}
+
+/// A challenge of the server. A client always answers the first one to its ALLOCATE, unless that says too little to be answered.
+#[derive(Clone, Copy, Debug)]
+pub struct Challenge {
+    /// The error response.
+    pub error: ErrorReply,
+    /// Whether the ALLOCATE had none before.
+    pub is_first: bool,
 }
 
 impl Heard {
@@ -89,8 +99,8 @@ impl Heard {
         if let Some(error) = self.allocate_error {
             return refusal(error, self.is_challenged);
         }
-        if let Some(code) = self.challenge {
-            return Why::TooManyChallenges(code);
+        if let Some(challenge) = self.challenge {
+            return end_by(challenge);
         }
         if !self.is_allocated {
             return Why::Silent(now.since(self.since));
@@ -107,11 +117,11 @@ impl Heard {
     pub fn end(&self) -> Why
         ensures { result ≡ cause_of_end self.now }
     {
-        if let Some(code) = self.challenge {
-            return Why::TooManyChallenges(code);
+        if let Some(challenge) = self.challenge {
+            return end_by(challenge);
         }
         if let Some(error) = self.refresh_error {
-            if is_forgotten(&error) {
+            if is_forgotten(error.code) {
                 return Why::Forgotten(error);
             }
             return Why::NotRenewed(error);
@@ -148,15 +158,26 @@ impl Heard {
         }
     }
 
+    /// A challenge, which the client answers, unless it ends by it.
+    fn challenged(&mut self, asked: Asked, error: ErrorReply)
+        ensures { self.new ≡ after_challenge asked error self.old }
+    {
+        let is_allocate = matches!(asked, Asked::Allocate);
+        self.challenge = Some(Challenge {
+            error,
+            is_first: is_allocate && !self.is_challenged,
+        });
+        if is_allocate {
+            self.is_challenged = true;
+        }
+    }
+
     /// An error.
     fn denied(&mut self, asked: Asked, error: ErrorReply)
         ensures { self.new ≡ after_denial asked error self.old }
     {
         if error.is_taken && is_challenge(&error) {
-            self.challenge = error.code;
-            if matches!(asked, Asked::Allocate) {
-                self.is_challenged = true;
-            }
+            self.challenged(asked, error);
             return;
         }
         match asked {
@@ -164,6 +185,19 @@ impl Heard {
             Asked::Refresh => self.refresh_error = Some(error),
             Asked::Other => {}
         }
+    }
+}
+
+/// Why a client has ended by this challenge: it was one too many, or the first one, which could not be answered.
+fn end_by(challenge: Challenge) -> Why
+    ensures { result ≡ end_by challenge }
+{
+    if challenge.is_first {
+        return Why::Refused(challenge.error);
+    }
+    match challenge.error.code {
+        Some(code) => Why::TooManyChallenges(code),
+        None => Why::Refused(challenge.error),
     }
 }
 
@@ -178,7 +212,7 @@ pub fn refusal(error: ErrorReply, is_challenged: bool) -> Why
 }
 
 /// Whether the error has a code of a challenge.
-fn is_challenge(error: &ErrorReply) -> bool
+pub(crate) fn is_challenge(error: &ErrorReply) -> bool
     ensures { result ≡ is_challenge error.now }
 {
     match error.code {
@@ -193,16 +227,6 @@ fn is_credentials(error: &ErrorReply) -> bool
 {
     match error.code {
         Some(code) => code == ErrorCode::BAD_REQUEST || code == ErrorCode::UNAUTHORIZED,
-        None => false,
-    }
-}
-
-/// Whether a server that refuses a REFRESH by this error no longer knows the allocation.
-fn is_forgotten(error: &ErrorReply) -> bool
-    ensures { result ≡ is_forgotten error.now }
-{
-    match error.code {
-        Some(code) => code == ErrorCode::BAD_REQUEST || code == ErrorCode::ALLOCATION_MISMATCH,
         None => false,
     }
 }

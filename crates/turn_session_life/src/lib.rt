@@ -9,6 +9,7 @@
 //! ```
 #![tactic(auto)]
 
+pub mod doubts;
 pub mod heard;
 pub mod life;
 pub mod responses;

@@ -1,9 +1,9 @@
 //! The checks of the path to the server, with the request that is to be sent next and the results that are to be reported.
 
 ghost use Rattle.std.specs.Prelude.{◌≡◌};
-ghost use Rattle.turn_session_life.specs.Watch.{after_look, after_mapped, after_task, next_wait, shared_ticket, watch_step};
+ghost use Rattle.turn_session_life.specs.Watch.{after_look, after_opening, after_task, next_wait, shared_ticket, watch_step};
 ghost use Rattle.turn_session_life.specs.Watch.{watched_check, watched_response, watching};
-ghost use Rattle.turn_session_life.specs.Watch.{taken_move, taken_request, taken_result};
+ghost use Rattle.turn_session_life.specs.Watch.{given_up, taken_move, taken_request, taken_result};
 
 use std::net::SocketAddr;
 use turn_agent::NumberSource;
@@ -45,6 +45,8 @@ pub enum WatchStep {
     Idle,
     /// The allocation is in doubt. Poll again.
     Doubt,
+    /// The server sees another address of this client than before. Poll again.
+    Moved,
     /// The session is to end.
     End(Why),
 }
@@ -62,6 +64,8 @@ pub struct Watch {
     pub mapped: Option<SocketAddr>,
     /// The address of a move that is to be reported.
     pub moved: Option<SocketAddr>,
+    /// Whether there was a move since the last poll.
+    pub is_moved: bool,
 }
 
 impl Watch {
@@ -81,7 +85,16 @@ impl Watch {
             result: None,
             mapped: None,
             moved: None,
+            is_moved: false,
         }
+    }
+
+    /// The session is open from now on, at this address of the client as the server sees it, and its path is probed.
+    pub fn open(&mut self, every: Option<u64>, mapped: Option<SocketAddr>, now: Instant)
+        ensures { self.new ≡ after_opening every mapped now self.old }
+    {
+        self.path.probe(every, now);
+        self.mapped = mapped;
     }
 
     /// The caller asks whether the path carries packets. Returns the ticket under which the result is reported: that of a check that
@@ -100,6 +113,10 @@ impl Watch {
     pub fn poll(&mut self, now: Instant) -> WatchStep
         ensures { (result, self.new) ≡ watch_step now self.old }
     {
+        if self.is_moved {
+            self.is_moved = false;
+            return WatchStep::Moved;
+        }
         if self.outbox.is_some() {
             return WatchStep::Now;
         }
@@ -154,13 +171,6 @@ impl Watch {
         }
     }
 
-    /// The server sees this address of the client, by the response that granted the allocation.
-    pub fn mapped(&mut self, mapped: Option<SocketAddr>)
-        ensures { self.new ≡ after_mapped mapped self.old }
-    {
-        self.mapped = mapped;
-    }
-
     /// The request that is to be sent next. It is sent from now on.
     pub fn take_request(&mut self) -> Option<OwnRequest>
         ensures { (result, self.new) ≡ taken_request self.old }
@@ -177,6 +187,19 @@ impl Watch {
         let checked = self.result;
         self.result = None;
         checked
+    }
+
+    /// Gives up the check of the caller that is under way, if there is one. It had no response.
+    pub fn give_up_check(&mut self) -> Option<Checked>
+        ensures { (result, self.new) ≡ given_up self.old }
+    {
+        let check = self.path.check?;
+        self.path.check = None;
+        Some(Checked {
+            ticket: check.ticket,
+            is_answered: false,
+            mapped: None,
+        })
     }
 
     /// This client's new address, if a move is to be reported. It is from now on.
@@ -208,6 +231,7 @@ impl Watch {
         if let Some(before) = self.mapped {
             if before != address {
                 self.moved = mapped;
+                self.is_moved = true;
             }
         }
         self.mapped = mapped;

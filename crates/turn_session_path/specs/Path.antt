@@ -32,6 +32,9 @@ first_path transport every ids now = record {
   sent = None;
 }
 
+abbrev pub after_probing : Option ℕ → ℕ → Path → Path
+after_probing every now p = record p { prober = probed_every now every }
+
 -- who asks while a check is under way shares its ticket and its round
 abbrev pub ticket_of : ℕ → Path → ℕ
 ticket_of ticket p = by p.check

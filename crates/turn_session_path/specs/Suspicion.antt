@@ -14,10 +14,11 @@ after_doubt s = record s { is_due = true }
 abbrev pub after_move : Suspicion → Suspicion
 after_move s = record s { is_due = true; answered = None }
 
--- what a server answers that does not know the allocation: 437 (RFC 8656, section 18.13), and some answer 400
+-- what a server answers that does not know the allocation: 437, or 441 after a restart with another realm (RFC 8656, section 19),
+-- and some answer 400
 abbrev pub is_forgotten : Option ℕ → Bool
 is_forgotten None = false
-is_forgotten (Some code) = (code == 400) || (code == 437)
+is_forgotten (Some code) = (code == 400) || (code == 437) || (code == 441)
 
 -- 2 s after the first answer, twice as long after each further one, to 60 s, and anew after 300 s without one
 abbrev pub pause_after : ℕ → Suspicion → ℕ

@@ -40,3 +40,7 @@ pub const ALLOCATION_PAUSE_ENDS: u64 = 300_000_000_000;
 /// An unsigned error to the signed ALLOCATE is the server's answer after so long, unless a signed response comes. The client
 /// retransmits the ALLOCATE after 0.5 s, so a true response has two chances.
 pub const GRACE: u64 = 1_000_000_000;
+
+/// The error code of a server that holds an allocation of this client under another user name (RFC 8656, section 19). A server
+/// that was restarted with another realm answers so too.
+pub const WRONG_CREDENTIALS: u16 = 441;

@@ -1,7 +1,8 @@
 //! Whether the path to the server still carries packets.
 
 ghost use Rattle.std.specs.Prelude.{◌≡◌};
-ghost use Rattle.turn_session_path.specs.Path.{after_check, after_failure, after_full, after_room, after_sending, first_path, probed_every, ticket_of};
+ghost use Rattle.turn_session_path.specs.Path.{after_check, after_failure, after_full, after_probing, after_room, after_sending};
+ghost use Rattle.turn_session_path.specs.Path.{first_path, probed_every, ticket_of};
 
 mod due;
 mod poll;
@@ -12,6 +13,7 @@ use crate::full_stream::FullStream;
 use crate::prober::Prober;
 use crate::round::{Asks, CheckRequest};
 use crate::socket_errors::SocketErrors;
+pub use due::sooner;
 use turn_agent::NumberSource;
 use turn_session_book::causes::Why;
 use turn_session_book::tags::Tag;
@@ -105,6 +107,13 @@ impl Path {
             full: FullStream::new(),
             sent: None,
         }
+    }
+
+    /// From now on the path is probed with this time between two probes, in nanoseconds, or with `None` only when the caller asks.
+    pub fn probe(&mut self, every: Option<u64>, now: Instant)
+        ensures { self.new ≡ after_probing every now self.old }
+    {
+        self.prober = first_prober(every, now);
     }
 
     /// The caller asks whether the path carries packets. Returns the ticket of the check under way, or else begins one with this

@@ -1,10 +1,12 @@
 //! Whether the server still knows the allocation: a signed request asks it when there is a doubt.
 
 ghost use Rattle.std.specs.Prelude.{◌≡◌};
-ghost use Rattle.turn_session_path.specs.Suspicion.{after_answer, after_doubt, after_move, begin_step, check_deadline, check_time, is_forgotten, no_doubt, pause_after, suspicion_step};
+ghost use Rattle.turn_session_path.specs.Suspicion.{after_answer, after_doubt, after_move, begin_step, check_deadline, check_time};
+ghost use Rattle.turn_session_path.specs.Suspicion.{is_forgotten, no_doubt, pause_after, suspicion_step};
 
 use crate::constants::{
     ALLOCATION_CHECK, ALLOCATION_PAUSE_ENDS, FIRST_ALLOCATION_PAUSE, LAST_ALLOCATION_PAUSE, RUN,
+    WRONG_CREDENTIALS,
 };
 use std::time::Duration;
 use turn_stun::attribute::error_code::ErrorCode;
@@ -152,12 +154,16 @@ fn check_deadline(now: Instant) -> Instant
     now.plus(Duration::from_nanos(ALLOCATION_CHECK))
 }
 
-/// Whether a server that answers by this error code has forgotten the allocation.
-fn is_forgotten(code: Option<u16>) -> bool
+/// Whether a server that answers by this error code no longer knows the allocation.
+pub fn is_forgotten(code: Option<u16>) -> bool
     ensures { result ≡ is_forgotten code }
 {
     match code {
-        Some(code) => code == ErrorCode::BAD_REQUEST || code == ErrorCode::ALLOCATION_MISMATCH,
+        Some(code) => {
+            code == ErrorCode::BAD_REQUEST
+                || code == ErrorCode::ALLOCATION_MISMATCH
+                || code == WRONG_CREDENTIALS
+        }
         None => false,
     }
 }

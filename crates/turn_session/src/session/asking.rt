@@ -1,22 +1,15 @@
 //! Requests of the caller, and what it keeps.
 
-ghost use Rattle.std.specs.Prelude.{◌≡◌, ◌≤◌, ◌^◌, true};
-ghost use Rattle.turn_session.specs.Asking.{Answers, Begins, Requests, added, answer_with, begun, is_granted, keep_result, known_answer, makes};
-ghost use Rattle.turn_session.specs.Keeping.{keep_step, kept_while_running};
-ghost use Rattle.turn_session.specs.Waiting.{must_wait};
-ghost use Rattle.turn_session_book.specs.OpenRequests.{request_for};
+ghost use Rattle.std.specs.Prelude.{◌≡◌, ◌≤◌, ◌^◌};
+ghost use Rattle.turn_session.specs.SessionState.{NotesAlone, with_noted};
+ghost use Rattle.turn_session_client.specs.Asking.{Requests, grant_of, keep_result};
+ghost use Rattle.turn_session_client.specs.Keeping.{kept_while_running};
 
-use crate::constants::MAX_UNSENT;
-use crate::keeping::keep;
-use crate::making::{Made, make};
 use crate::session::Session;
 use turn_client_api::TurnClientApi;
 use turn_session_book::answers::{Answer, CallError};
 use turn_session_book::keys::Key;
-use turn_session_book::open_requests::{OpenRequest, Progress};
-use turn_session_book::rests::Rest;
 use turn_stun::instant::Instant;
-use turn_types::TransportType;
 
 impl<C: TurnClientApi> Session<C> {
     /// Requests this key. What was granted and let go is kept again. A request for data is not made while the key rests.
@@ -26,24 +19,10 @@ impl<C: TurnClientApi> Session<C> {
     /// here, in the order in which they were made. Without memory nothing is requested, nor by a session that leaves or has ended.
     pub fn request(&mut self, key: Key, is_for_data: bool, now: Instant) -> Answer
         requires now_in_range { now ≤ 2 ^ 62 }
-        ensures { Requests key is_for_data now result self.old self.new }
+        ensures answer { Requests key is_for_data now result self.old.noted self.new.noted }
+        ensures rest { NotesAlone self.old self.new }
     {
-        match self.life.cause() {
-            Some(why) => Answer::Ended(why),
-            None => self.request_now(key, is_for_data, now),
-        }
-    }
-
-    /// Requests this key in a session that neither leaves nor has ended.
-    fn request_now(&mut self, key: Key, is_for_data: bool, now: Instant) -> Answer
-        requires now_in_range { now ≤ 2 ^ 62 }
-        ensures { let k = (keep_step key true self.old).1 in Answers (known_answer key is_for_data now k) key now result k self.new }
-    {
-        let _known = self.keep(key, true);
-        match self.known_answer(key, is_for_data, now) {
-            Some(answer) => answer,
-            None => self.begin(key, now),
-        }
+        self.noted.request(key, is_for_data, now)
     }
 
     /// Says whether this key is kept, so that it is refreshed. It is until the caller says otherwise.
@@ -53,131 +32,18 @@ impl<C: TurnClientApi> Session<C> {
     /// `NotGranted` if it was neither granted nor requested, for a data connection, and if the session leaves or has ended. Nothing
     /// changes then.
     pub fn set_kept(&mut self, key: Key, is_kept: bool) -> Result<(), CallError>
-        ensures answer { result ≡ keep_result (kept_while_running key is_kept self.old).0 }
-        ensures after { self.new ≡ (kept_while_running key is_kept self.old).1 }
+        ensures answer { result ≡ keep_result (kept_while_running key is_kept self.old.noted).0 }
+        ensures after { self.new ≡ with_noted (kept_while_running key is_kept self.old.noted).1 self.old }
     {
-        if self.life.is_running() && self.keep(key, is_kept) {
-            return Ok(());
-        }
-        Err(CallError::NotGranted)
+        self.noted.set_kept(key, is_kept)
     }
 
-    /// Says whether this key is kept. Returns whether there is such a grant, or a request for it.
-    fn keep(&mut self, key: Key, is_kept: bool) -> bool
-        ensures { (result, self.new) ≡ keep_step key is_kept self.old }
+    /// How far this key has come, as a request for data would be answered that needs nothing of the client: `Granted` if it is active,
+    /// `Ticket` if it is requested, `Resting` if the server refused it a while ago, and `Ended` if the session leaves or has ended. With
+    /// `None` it would be requested.
+    pub fn grant_of(&self, key: Key, now: Instant) -> Option<Answer>
+        ensures { result ≡ grant_of key now self.now.noted }
     {
-        let Some(relays) = self.notes.relays else {
-            return false;
-        };
-        match keep(&mut self.client, relays, key, is_kept) {
-            Ok(()) => {
-                self.notes.book.mark(key, is_kept);
-                true
-            }
-            Err(_) => false,
-        }
-    }
-
-    /// The answer to a request for this key that needs none of the client.
-    fn known_answer(&self, key: Key, is_for_data: bool, now: Instant) -> Option<Answer>
-        ensures { result ≡ known_answer key is_for_data now self.now }
-    {
-        let rest = if is_for_data {
-            self.notes.book.rest_of(key, now)
-        } else {
-            None
-        };
-        answer_with(self.is_granted(key), self.notes.book.request_of(key), rest)
-    }
-
-    /// Whether this key is granted now. A data connection that is open is no grant.
-    fn is_granted(&self, key: Key) -> bool
-        ensures { result ≡ is_granted key self.now }
-    {
-        let Some(relays) = self.notes.relays else {
-            return false;
-        };
-        match key {
-            Key::Permission(ip) => self.client.have_permission(relays, ip),
-            _ => self.notes.book.is_held(key),
-        }
-    }
-
-    /// Begins a request for this key, for which there is none.
-    fn begin(&mut self, key: Key, now: Instant) -> Answer
-        requires now_in_range { now ≤ 2 ^ 62 }
-        requires new { request_for key self.old.notes.book.requests ≡ None }
-        ensures { Begins result self.old self.new (begun key now self.old) }
-    {
-        let Some(relays) = self.notes.relays else {
-            return Answer::Refused(CallError::NoAllocation);
-        };
-        if self.must_wait() {
-            return self.add(key, Progress::Waiting);
-        }
-        self.make_first(key, relays, now)
-    }
-
-    /// Whether a new request waits: behind others that do, or while eight requests of the client are queued.
-    fn must_wait(&self) -> bool
-        ensures { result ≡ must_wait self.now }
-    {
-        self.client.queued_requests() >= MAX_UNSENT || self.notes.book.first_waiting().is_some()
-    }
-
-    /// Notes a request under the next ticket.
-    fn add(&mut self, key: Key, progress: Progress) -> Answer
-        ensures { Begins result self.old self.new (added key progress self.old) }
-    {
-        let ticket = self.next_ticket;
-        match self.notes.book.add(ticket, key, progress) {
-            Ok(given) => {
-                self.next_ticket = ticket.wrapping_add(1);
-                Answer::Ticket(given)
-            }
-            Err(_) => Answer::Refused(CallError::OutOfMemory),
-        }
-    }
-
-    /// Requests the key of the client at once.
-    fn make_first(&mut self, key: Key, relays: TransportType, now: Instant) -> Answer
-        requires now_in_range { now ≤ 2 ^ 62 }
-        requires new { request_for key self.old.notes.book.requests ≡ None }
-        ensures { Begins result self.old self.new (makes key relays now self.old) }
-    {
-        let ticket = self.next_ticket;
-        if self.notes.book.add(ticket, key, Progress::Queued).is_err() {
-            return Answer::Refused(CallError::OutOfMemory);
-        }
-        match make(&mut self.client, relays, key, now) {
-            Made::Queued => {
-                self.next_ticket = ticket.wrapping_add(1);
-                Answer::Ticket(ticket)
-            }
-            Made::Refused(error) => {
-                self.notes.book.withdraw();
-                Answer::Refused(error)
-            }
-            Made::NoMemory => {
-                self.notes.book.withdraw();
-                Answer::Refused(CallError::OutOfMemory)
-            }
-        }
-    }
-}
-
-/// The answer to a request for a key that is granted or not, with the request under way and the rest that it has.
-fn answer_with(is_granted: bool, request: Option<OpenRequest>, rest: Option<Rest>) -> Option<Answer>
-    ensures { result ≡ answer_with is_granted request rest }
-{
-    if is_granted {
-        return Some(Answer::Granted);
-    }
-    if let Some(request) = request {
-        return Some(Answer::Ticket(request.ticket));
-    }
-    match rest {
-        Some(rest) => Some(Answer::Resting(rest.until, rest.error)),
-        None => None,
+        self.noted.grant_of(key, now)
     }
 }

@@ -62,7 +62,7 @@ impl Path {
 }
 
 /// The sooner of two times, of which each may be missing.
-fn sooner(a: Option<Instant>, b: Option<Instant>) -> Option<Instant>
+pub fn sooner(a: Option<Instant>, b: Option<Instant>) -> Option<Instant>
     ensures { result ≡ sooner a b }
 {
     match a {

@@ -1,0 +1,17 @@
+pub mod Answering
+pub mod Asking
+pub mod Doubting
+pub mod Drain
+pub mod Ending
+pub mod Keeping
+pub mod Leaving
+pub mod Making
+pub mod Notes
+pub mod Polling
+pub mod Reading
+pub mod Receiving
+pub mod Reporting
+pub mod Rows
+pub mod Sending
+pub mod NotedState
+pub mod Waiting

@@ -1,0 +1,98 @@
+-- What the server sent, and a session after it.
+use Rattle.std.specs.Prelude.{◌≡◌, ℕ, Bool, true, false, if◌then◌else◌, List, Option, Some, None}
+use Rattle.std.specs.declared.net.socket_addr.SocketAddr.{SocketAddr}
+use Rattle.turn_stun.specs.declared.transport.TransportType.{TransportType}
+use Rattle.turn_client_api.specs.Payloads.{Outcome}
+use Rattle.turn_client_api.specs.Payloads as Outcomes
+use Rattle.turn_client_api.specs.Receive.{recv_step}
+use Rattle.turn_client_api.specs.State.{State}
+use Rattle.turn_client_api.specs.declared.event.TurnEvent.{TurnEvent}
+use Rattle.turn_session_book.specs.declared.causes.Why.TheVariants.{OutOfMemory}
+use Rattle.turn_session_book.specs.declared.replies.ErrorReply.{ErrorReply}
+use Rattle.turn_session_life.specs.Doubts as Doubting
+use Rattle.turn_session_life.specs.Heard as Heard
+use Rattle.turn_session_life.specs.Life.{after_end, after_heard}
+use Rattle.turn_session_life.specs.Verdict as Verdict
+use Rattle.turn_session_life.specs.declared.doubts.Doubts.{Doubts}
+use Rattle.turn_session_life.specs.declared.life.Phase.{Phase}
+use Rattle.turn_session_life.specs.declared.life.Phase.TheVariants.{Leaving, Over}
+use Rattle.turn_session_life.specs.declared.responses.Response.{Response}
+use Rattle.turn_session_life.specs.declared.verdict.Blame.{Blame}
+use Rattle.turn_session_client.specs.Drain.{drained}
+use Rattle.turn_session_client.specs.Ending.{is_open}
+use Rattle.turn_session_client.specs.Reading.{IsReading, hint_in, mapped_after, reply_in, response_to}
+use Rattle.turn_session_client.specs.NotedState.{NotedState, with_life}
+use Rattle.turn_session_client.specs.declared.reading.Reading.{Reading}
+
+abbrev pub is_taken : Outcome → Bool
+is_taken Outcomes.Handled = true
+is_taken _ = false
+
+-- after the end of a session nothing is for it
+abbrev pub outcome_in : Phase → Outcome → Outcome
+outcome_in (Over why) outcome = Outcomes.Ignored
+outcome_in _ outcome = outcome
+
+-- ---- a response
+
+-- an unsigned error of the ALLOCATE is the verdict, unless there was one before
+abbrev pub blamed : Option ErrorReply → Bool → ℕ → Option Blame → Option Blame
+blamed None is_challenged now blame = blame
+blamed (Some e) is_challenged now blame = Verdict.after_refusal (Heard.refusal e is_challenged) now blame
+
+-- an open session doubts its allocation
+abbrev pub doubted : Response → ℕ → NotedState → Doubts
+doubted r now s = if is_open s.life.phase then Doubting.after_response r now s.doubts else s.doubts
+
+abbrev pub noted_response : Response → ℕ → NotedState → NotedState
+noted_response r now s =
+    let heard = Heard.after_response r now s.heard in
+    record s {
+      heard = heard;
+      life = after_heard s.life;
+      doubts = doubted r now s;
+      verdict = record { blame = blamed (hint_in r) heard.is_challenged now (Verdict.after_response s.verdict.blame) };
+    }
+
+abbrev pub noted_reading : Option Reading → Bool → ℕ → NotedState → NotedState
+noted_reading None taken now s = s
+noted_reading (Some r) taken now s =
+    noted_response (response_to r taken) now (record s { notes = record s.notes { mapped = mapped_after r taken s.notes.mapped } })
+
+-- while an earlier event is to be noted, no error is: that event has the one before
+abbrev pub reply_for : Option Reading → NotedState → Option ErrorReply
+reply_for reading s = by s.taken
+  where
+    by : Option TurnEvent → Option ErrorReply
+    by (Some event) = None
+    by None = reply_in reading
+
+-- what the client accepted is the error that was received last
+abbrev pub with_reply : Bool → Option ErrorReply → NotedState → NotedState
+with_reply taken reply s = if taken then record s { notes = record s.notes { reply = reply } } else s
+
+abbrev pub received : Option Reading → Option ErrorReply → Bool → ℕ → NotedState → NotedState
+received reading reply taken now s = noted_reading reading taken now (with_reply taken reply s)
+
+-- ---- the call, before the events of the client are noted
+
+abbrev pub heard_step : TransportType → SocketAddr → SocketAddr → List ℕ → Option Reading → ℕ → NotedState → NotedState
+heard_step transport from to bytes reading now s =
+    let step = recv_step transport from to bytes now s.client in
+    received reading (reply_for reading s) (is_taken step.0) now (record s { client = step.1 })
+
+-- a session that leaves notes nothing, and after its end nothing changes
+abbrev pub Receives : TransportType → SocketAddr → SocketAddr → List ℕ → ℕ → NotedState → NotedState → Type 0
+Receives transport from to bytes now was s = by was.life.phase
+  where
+    by : Phase → Type 0
+    by (Over why) = s ≡ was
+    by (Leaving leave) = s ≡ record was { client = (recv_step transport from to bytes now was.client).1 }
+    by _ = (reading : Option Reading) × IsReading bytes was.client reading
+        × (drained now s ≡ drained now (heard_step transport from to bytes reading now was))
+
+-- ---- without memory
+
+-- the client has ended in this state, and the session with it
+abbrev pub ended_with : State → NotedState → NotedState
+ended_with client s = with_life (after_end OutOfMemory s.life) (record s { client = client })

@@ -1,0 +1,7 @@
+//! The times and limits of a session. Times are in nanoseconds.
+
+/// So many requests may be queued and not sent. The others wait in the session.
+pub const MAX_UNSENT: usize = 8;
+
+/// After a failed memory allocation the next `poll` is asked for after so long. Nothing was lost.
+pub const SHORTAGE: u64 = 100_000_000;

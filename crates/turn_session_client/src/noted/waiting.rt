@@ -1,0 +1,73 @@
+//! Requests that wait.
+
+ghost use Rattle.std.specs.Prelude.{◌≡◌, ◌≤◌, ◌^◌, IfOk, OnErr, OnOk};
+ghost use Rattle.turn_session_client.specs.Polling.{NextWaitsOn, WaitsOn, next_made, waiting_made};
+ghost use Rattle.turn_session_client.specs.Waiting.{next_to_make};
+
+use crate::constants::MAX_UNSENT;
+use crate::making::{Made, make};
+use crate::noted::NotedClient;
+use std::alloc::AllocError;
+use turn_client_api::TurnClientApi;
+use turn_session_book::answers::Outcome;
+use turn_session_book::keys::Key;
+use turn_session_book::open_requests::{OpenRequest, Progress};
+use turn_stun::instant::Instant;
+use turn_types::TransportType;
+
+impl<C: TurnClientApi> NotedClient<C> {
+    /// Makes the first request that waits, if fewer than eight of the client are queued. Returns whether there is one.
+    ///
+    /// # Errors
+    ///
+    /// If memory allocation fails. It waits on then.
+    pub(crate) fn make_next(&mut self, now: Instant) -> Result<bool, AllocError>
+        requires now_in_range { now ≤ 2 ^ 62 }
+        ensures ok { IfOk result (λ is_made. (is_made, self.new) ≡ next_made now self.old) }
+        ensures err { OnErr result (NextWaitsOn now self.old self.new) }
+    {
+        let Some(relays) = self.notes.relays else {
+            return Ok(false);
+        };
+        let Some(request) = self.next_to_make() else {
+            return Ok(false);
+        };
+        self.make_waiting(request.key, relays, now)?;
+        Ok(true)
+    }
+
+    /// The request that is made next, if one can be.
+    fn next_to_make(&self) -> Option<OpenRequest>
+        ensures { result ≡ next_to_make self.now }
+    {
+        if self.client.queued_requests() >= MAX_UNSENT {
+            return None;
+        }
+        self.notes.book.first_waiting()
+    }
+
+    /// Makes the request for this key, which waits.
+    ///
+    /// # Errors
+    ///
+    /// If memory allocation fails. It waits on then.
+    fn make_waiting(
+        &mut self,
+        key: Key,
+        relays: TransportType,
+        now: Instant,
+    ) -> Result<(), AllocError>
+        requires now_in_range { now ≤ 2 ^ 62 }
+        ensures ok { OnOk result (self.new ≡ waiting_made key relays now self.old) }
+        ensures err { OnErr result (WaitsOn key relays now self.old self.new) }
+    {
+        match make(&mut self.client, relays, key, now) {
+            Made::Queued => {
+                self.notes.book.advance(key, Progress::Queued);
+                Ok(())
+            }
+            Made::Refused(error) => self.notes.book.settled(key, Outcome::NotMade(error)),
+            Made::NoMemory => Err(AllocError),
+        }
+    }
+}

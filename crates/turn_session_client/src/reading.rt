@@ -1,0 +1,137 @@
+//! Responses to requests of the client, as they are before the client accepts or ignores them.
+
+ghost use Rattle.std.specs.Prelude.{◌≡◌};
+ghost use Rattle.turn_client_api.specs.Judgement.{lifetime_in};
+ghost use Rattle.turn_session_client.specs.Reading.{IsReading, IsText, asked_for, hint_in, mapped_after, reply_in, response_to};
+
+use crate::answering::{is_channel_data, reply_of};
+use std::net::SocketAddr;
+use turn_client_api::{Purpose, TurnClientApi};
+use turn_hints::mapped_address_of;
+use turn_session_book::replies::ErrorReply;
+use turn_session_life::responses::{Asked, Response, Said};
+use turn_stun::message::Message;
+use turn_stun::message::header::MessageClass;
+use turn_types::attribute::Lifetime;
+
+/// What a response says.
+#[derive(Clone, Copy, Debug)]
+pub enum Text {
+    /// A success, with its LIFETIME in seconds and its XOR-MAPPED-ADDRESS, if it has them.
+    Success(Option<u32>, Option<SocketAddr>),
+    /// An error.
+    Error(ErrorReply),
+}
+
+/// A response to a request of the client, which the client has not accepted or ignored yet.
+#[derive(Clone, Copy, Debug)]
+pub struct Reading {
+    /// The request that it answers.
+    pub asked: Asked,
+    /// Whether that request awaits a response.
+    pub is_awaited: bool,
+    /// What it says.
+    pub text: Text,
+}
+
+/// The response to a request of this client, if these bytes are one.
+pub(crate) fn read<C: TurnClientApi>(bytes: &[u8], client: &C) -> Option<Reading>
+    ensures { IsReading bytes.now (C.state client.now) result }
+{
+    if is_channel_data(bytes) {
+        return None;
+    }
+    let message = Message::from_bytes(bytes).ok()?;
+    let view = client.request_of(message.transaction_id());
+    let purpose = view.first?;
+    let text = text_of(&message)?;
+    Some(Reading {
+        asked: asked_for(purpose),
+        is_awaited: view.resends.is_some(),
+        text,
+    })
+}
+
+/// What the message says, if it is a response.
+fn text_of(message: &Message<'_>) -> Option<Text>
+    ensures { IsText message.now result }
+{
+    match message.class() {
+        MessageClass::Success => Some(Text::Success(
+            lifetime_of(message),
+            mapped_address_of(message),
+        )),
+        MessageClass::Error => Some(Text::Error(reply_of(message))),
+        _ => None,
+    }
+}
+
+/// The lifetime in seconds, from the first LIFETIME (RFC 8656, section 18.2).
+fn lifetime_of(message: &Message<'_>) -> Option<u32>
+    ensures { result ≡ lifetime_in message.now }
+{
+    match message.attribute::<Lifetime>() {
+        Ok(lifetime) => Some(lifetime.seconds()),
+        Err(_) => None,
+    }
+}
+
+/// Which request was made for this purpose.
+fn asked_for(purpose: Purpose) -> Asked
+    ensures { result ≡ asked_for purpose }
+{
+    match purpose {
+        Purpose::ForAllocation => Asked::Allocate,
+        Purpose::ForRefresh(_, _) => Asked::Refresh,
+        _ => Asked::Other,
+    }
+}
+
+/// The error of a response, as an event of the client reports it that accepts it.
+pub(crate) fn reply_in(reading: Option<Reading>) -> Option<ErrorReply>
+    ensures { result ≡ reply_in reading }
+{
+    match reading?.text {
+        Text::Success(_, _) => None,
+        Text::Error(reply) => Some(reply),
+    }
+}
+
+/// What the response says, now that the client has accepted or ignored it.
+pub(crate) fn response_to(reading: Reading, is_taken: bool) -> Response
+    ensures { result ≡ response_to reading is_taken }
+{
+    let said = match reading.text {
+        Text::Success(lifetime, _) if is_taken => Said::Granted(lifetime),
+        Text::Error(reply) if reading.is_awaited => Said::Denied(ErrorReply { is_taken, ..reply }),
+        _ => Said::Nothing,
+    };
+    Response {
+        asked: reading.asked,
+        said,
+    }
+}
+
+/// The error of the ALLOCATE that the response has, if it is not signed.
+pub(crate) fn hint_in(response: Response) -> Option<ErrorReply>
+    ensures { result ≡ hint_in response }
+{
+    match (response.asked, response.said) {
+        (Asked::Allocate, Said::Denied(error)) if !error.is_taken => Some(error),
+        _ => None,
+    }
+}
+
+/// This client's address as the server sees it, after this response: that in a success of the ALLOCATE that the client accepted.
+pub(crate) fn mapped_after(
+    reading: Reading,
+    is_taken: bool,
+    before: Option<SocketAddr>,
+) -> Option<SocketAddr>
+    ensures { result ≡ mapped_after reading is_taken before }
+{
+    match (reading.asked, reading.text) {
+        (Asked::Allocate, Text::Success(_, mapped)) if is_taken => mapped,
+        _ => before,
+    }
+}
