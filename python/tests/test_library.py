@@ -40,10 +40,9 @@ class Exchanges(unittest.TestCase):
     """What the client answers: as the pages say, as the transcripts say, and as turn_replay says."""
 
     @unittest.skipUnless(PAGE.exists(), "the sources are not here")
-    def test_the_exchanges_of_the_page(self) -> None:
-        first, answers, longer, answers_to_longer = (it.strip("\n") + "\n" for it in blocks()[:4])
-        self.assertEqual("".join(f"{it}\n" for it in replay(first)), answers)
-        self.assertEqual("".join(f"{it}\n" for it in replay(longer)), answers_to_longer)
+    def test_the_exchange_of_the_page(self) -> None:
+        exchange, answers = (it.strip("\n") + "\n" for it in blocks()[:2])
+        self.assertEqual("".join(f"{it}\n" for it in replay(exchange)), answers)
 
     @unittest.skipUnless((ROOT / "include" / "tests").exists(), "the sources are not here")
     def test_the_traces_of_the_repository(self) -> None:
