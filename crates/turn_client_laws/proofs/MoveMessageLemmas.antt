@@ -1,12 +1,13 @@
 -- What messages request, and what they remove.
-use Rattle.turn_client_laws.proofs.Common.{◌≡◌, ◌⊎◌, ℕ, eqb, ltb, leb, Bool, true, false, not, cond, ◌&&◌, List, [], ◌∷◌, ◌++◌, filter, length, Option, Some, None, refl, subst, inl, inr, sym, arith}
-use Rattle.turn_client_laws.proofs.Common.{find, is_some, IfSome, list_any, option_map_or, and_parts, socket_ip, SocketAddr}
-use Rattle.turn_client_laws.proofs.Machine.{IPV4, IPV6, AllocationCreateFailed, id_of, Tcp, Challenge, first_sent, is_response, Transaction, State, later_by, Grant, DataConnection, Listing, Purpose}
-use Rattle.turn_client_laws.proofs.Machine.{ForAllocation, Phase, Requesting, Authenticating, find_allocation_to, is_connection_from, is_for, is_for_allocation, purposes_of, unlisted, wait}
-use Rattle.turn_client_laws.proofs.Machine.{connection_attempt_method, fresh_id, listings, request_for, requested, waits_from, Judgement, Unrelated, Challenged, Fatal, ConnectionAttempt, SignedRequest}
-use Rattle.turn_client_laws.proofs.Machine.{SignedSuccess, SignedError, answers_allocate, authenticating_judgement, bind_judgement, class_in, connection_id_in, is_bind_of, judgement_of, lifetime_in}
-use Rattle.turn_client_laws.proofs.Machine.{method_in, peer_in, allocate_denied, allocate_granted, transaction_ended, family_not_supported, has_code, in_phase, bind_time, retried, state_after_retry}
-use Rattle.turn_client_laws.proofs.Machine.{with_held, attempt_indicated, attempt_requested, bind_again, bind_answered, bind_step, deadline_set, is_connected, accepts_attempt, bound, not_bound}
+use Rattle.turn_client_laws.proofs.Common.{◌≡◌, ◌⊎◌, ℕ, eqb, ltb, leb, Bool, true, false, not, cond, ◌&&◌, List, [], ◌∷◌, ◌++◌, filter, length, Option, Some, None, refl, subst, inl, inr}
+use Rattle.turn_client_laws.proofs.Common.{sym, find, is_some, IfSome, list_any, map, cases_Bool, option_map_or, and_parts, socket_ip, SocketAddr}
+use Rattle.turn_client_laws.proofs.Machine.{Allocation, Channel, Connect, Connection, Offer, Permission, map-has, IPV4, IPV6, AllocationCreateFailed, id_of, Tcp, Challenge, first_sent}
+use Rattle.turn_client_laws.proofs.Machine.{is_response, Transaction, State, later_by, Grant, DataConnection, Listing, Purpose, ForAllocation, Phase, Requesting, Authenticating}
+use Rattle.turn_client_laws.proofs.Machine.{find_allocation_to, is_connection_from, is_for, is_for_allocation, purposes_of, unlisted, wait, connection_attempt_method, fresh_id, listings}
+use Rattle.turn_client_laws.proofs.Machine.{request_for, requested, waits_from, Judgement, Unrelated, Challenged, Fatal, ConnectionAttempt, SignedRequest, SignedSuccess, SignedError}
+use Rattle.turn_client_laws.proofs.Machine.{answers_allocate, authenticating_judgement, bind_judgement, class_in, connection_id_in, is_bind_of, judgement_of, lifetime_in, method_in, peer_in}
+use Rattle.turn_client_laws.proofs.Machine.{allocate_denied, allocate_granted, transaction_ended, family_not_supported, has_code, in_phase, bind_time, retried, state_after_retry, with_held}
+use Rattle.turn_client_laws.proofs.Machine.{attempt_indicated, attempt_requested, bind_again, bind_answered, bind_step, deadline_set, is_connected, accepts_attempt, bound, not_bound}
 use Rattle.turn_client_laws.proofs.Machine.{with_deadline, Outcome, Handled, Ignored, challenge_step, message_step, response_step, signed_step, wrong_step, Has, has-right}
 use Rattle.turn_agent.specs.Agent as A
 use Rattle.turn_client_laws.specs.Handled.{Input, processed}
@@ -14,8 +15,8 @@ use Rattle.turn_client_laws.specs.LawsReplies.{IsAccepted}
 use Rattle.turn_client_laws.specs.LawsRequests.{IsAnswer, IsListedAgain, IsMade, IsMadeAgain, Spells}
 use Rattle.turn_client_laws.specs.LawsGone.{GivesBack, IsTakenByReply, IsRemovedByInput, grant_identity}
 use Rattle.turn_client_laws.proofs.EditsOfMessages.{found-has, retried-has}
-use Rattle.turn_client_laws.proofs.MoveLemmas.{Moves, Never, Settles, adds-filter, adds-more, adds-one, adds-same, loses-filter, loses-map, loses-more, loses-same, loses-wider, on_test, settles-moves}
-use Rattle.turn_client_laws.proofs.MoveLemmas.{settles-same, settles-wider}
+use Rattle.turn_client_laws.proofs.MoveLemmas.{Loses, Moves, Never, Settles, adds-filter, adds-more, adds-one, adds-same, loses-filter, loses-more, loses-same, loses-wider, on_test}
+use Rattle.turn_client_laws.proofs.MoveLemmas.{settles-moves, settles-same, settles-wider}
 use Rattle.turn_client_laws.proofs.MoveReplyLemmas.{IsFor, response-fits}
 use Rattle.turn_client_laws.proofs.OneInputLemmas.{input-by}
 use Rattle.turn_client_laws.proofs.CaseLemmas.{bind-by, found-local}
@@ -234,8 +235,21 @@ message-moves message now s = by (judgement_of s message) refl
 
 -- ---- connections that wait to be bound
 
-deadline-grant_identity : (local : SocketAddr) (deadline : Option ℕ) (g : Grant) → grant_identity g ≡ grant_identity (deadline_set local deadline g)
-deadline-grant_identity local deadline g = grind arith
+-- the deadline of the connection from this local address alone is set
+deadline-loses : (Taken : Grant → Type 0) (local : SocketAddr) (deadline : Option ℕ) (gs : List Grant) → ((g : Grant) → is_connection_from local g ≡ true → Taken g)
+    → Loses Taken gs (map (deadline_set local deadline) gs)
+deadline-loses Taken local deadline gs takes g there = elim (cases_Bool (is_connection_from local g)) [
+  | inl e ↦ inr (takes g e)
+  | inr e ↦ inl (deadline_set local deadline g, map-has (deadline_set local deadline) g gs there, same g e)
+]
+  where
+    same : (g : Grant) → is_connection_from local g ≡ false → grant_identity g ≡ grant_identity (deadline_set local deadline g)
+    same (Connection c) e = rw e refl
+    same (Allocation a) e = refl
+    same (Permission ip progress) e = refl
+    same (Channel number peer progress) e = refl
+    same (Connect peer) e = refl
+    same (Offer offer) e = refl
 
 again-moves : (c : DataConnection) (message : List ℕ) (d : Challenge) (now : ℕ) (s : State)
     → MovesByMessage (λ g. is_connection_from c.local g ≡ true) message now s (bind_again c (id_of message) d now s)
@@ -254,7 +268,7 @@ again-moves c message d now s = by (find (is_bind_of c.local) (purposes_of (id_o
         rw e (
           adds-one _ s.transactions s.transactions (request_made purpose now s u) (adds-same _ s.transactions) (made-again message now s t purpose answers made),
           adds-more _ s.listed u.listed (listings (fresh_id s) (purpose ∷ [])) (adds-filter _ _ s.listed) (listed-again message now s t purpose answers made (purpose ∷ []) (only purpose answers)),
-          loses-map _ (deadline_set c.local _) s.grants (deadline-grant_identity c.local _),
+          deadline-loses _ c.local _ s.grants (λ g e. e),
         )
       where
         only : (purpose : Purpose) → Has purpose (purposes_of (id_of message) s) → (p : Purpose) → Has p (purpose ∷ []) → Has p (purposes_of (id_of message) s)
@@ -274,7 +288,7 @@ answered-moves c message now s = by (bind_judgement s c.local message) refl
     by : (j : Judgement) → bind_judgement s c.local message ≡ j → MovesByMessage Taken message now s (bind_answered c message now s)
     by (Challenged d) e = rw e (again-moves c message d now s)
     by SignedSuccess e = rw e (moves-settled Taken message now s (bound c (transaction_ended (id_of message) s))
-        (adds-filter Never _ s.transactions, adds-filter Never _ s.listed, loses-map Taken (deadline_set c.local None) s.grants (deadline-grant_identity c.local None)))
+        (adds-filter Never _ s.transactions, adds-filter Never _ s.listed, deadline-loses Taken c.local None s.grants (λ g e. e)))
     by SignedError e = rw e (moves-settled Taken message now s (not_bound c (transaction_ended (id_of message) s))
         (adds-filter Never _ s.transactions, adds-filter Never _ s.listed, loses-filter Taken (is_connection_from c.local) s.grants (λ g e. e)))
     by j e = rw e unbound

@@ -1,16 +1,17 @@
 -- As time passes, a grant is removed only when it has expired.
-use Rattle.turn_client_laws.proofs.Common.{◌≡◌, ◌⊎◌, ◌≤◌, ℕ, eqb, leb, Bool, true, false, not, cond, ◌&&◌, ◌||◌, List, [], ◌∷◌, ◌++◌, filter, find, fold, reverse, Option, Some, None, refl, sym, subst}
-use Rattle.turn_client_laws.proofs.Common.{◌∙◌, inl, inr, arith, option_map_or, Contains, IsDistinct, AllByRecursion, and_parts, eqb-true, eq-eqb, leb-true, ltb-true, cases_Bool, none-some, same_Some}
-use Rattle.turn_client_laws.proofs.Common.{SocketAddr}
-use Rattle.turn_client_laws.proofs.Machine.{AddressFamily, timed_out_transaction, Transaction, State, agent_of, later_by, DataOffer, Grant, Allocation, Permission, Channel, Offer, Connection}
-use Rattle.turn_client_laws.proofs.Machine.{DataConnection, Relay, Progress, Active, Reserved, Purpose, Phase, Requesting, Authenticating, Allocated, as_allocation, allocations, family_of}
-use Rattle.turn_client_laws.proofs.Machine.{family_of_grant, is_channel_of, is_connect, is_for_any, is_of, is_of_request, is_pending_channel, is_pending_permission, closed, transaction_ended}
-use Rattle.turn_client_laws.proofs.Machine.{reserved_time, has_event, has_reply, answer_step, channel_expired, connections_unbound, timed_out_purposes, timed_out_step, allocation_expires}
-use Rattle.turn_client_laws.proofs.Machine.{failed_by_timeout, is_timed_out_offer, is_expired_channel, is_expired_permission, is_listed_for_allocation, is_over, is_unbound, expired_at}
-use Rattle.turn_client_laws.proofs.Machine.{expired_allocation, expired_in, last_channel_expired, next_offer, offer_step, offers_timed_out, permissions_expired, poll_step, timed_step, Leaves, Poll}
-use Rattle.turn_client_laws.proofs.Machine.{Has, filter-has, has-append, has-filter, has-filter_map, has-found, has-left, has-right, filter_map-has, cases_Option, has-unreversed, Lease}
+use Rattle.turn_client_laws.proofs.Common.{◌≡◌, ◌⊎◌, ◌≤◌, ℕ, ap, eqb, leb, Bool, true, false, not, cond, ◌&&◌, ◌||◌, List, [], ◌∷◌, ◌++◌, filter, find, fold, reverse, Option, Some, None}
+use Rattle.turn_client_laws.proofs.Common.{refl, sym, subst, ◌∙◌, inl, inr, arith, option_map_or, Contains, IsDistinct, AllByRecursion, and_parts, eqb-true, eq-eqb, leb-true, ltb-true}
+use Rattle.turn_client_laws.proofs.Common.{cases_Bool, none-some, same_Some, SocketAddr}
+use Rattle.turn_client_laws.proofs.Machine.{AddressFamily, timed_out_transaction, Transaction, State, agent_of, later_by, DataOffer, Grant, Allocation, Permission, Channel, Offer}
+use Rattle.turn_client_laws.proofs.Machine.{Connection, DataConnection, Relay, Progress, Active, Reserved, Purpose, Phase, Requesting, Authenticating, Allocated, as_allocation, allocations}
+use Rattle.turn_client_laws.proofs.Machine.{family_of, family_of_grant, is_channel_of, is_connect, is_for_any, is_of, is_of_request, is_pending_channel, is_pending_permission, closed}
+use Rattle.turn_client_laws.proofs.Machine.{transaction_ended, reserved_time, has_event, has_reply, answer_step, channel_expired, connections_unbound, timed_out_purposes, timed_out_step}
+use Rattle.turn_client_laws.proofs.Machine.{allocation_expires, failed_by_timeout, is_timed_out_offer, is_expired_channel, is_expired_permission, is_listed_for_allocation, is_over}
+use Rattle.turn_client_laws.proofs.Machine.{is_unbound, expired_at, expired_allocation, expired_in, last_channel_expired, next_offer, offer_step, offers_timed_out, permissions_expired}
+use Rattle.turn_client_laws.proofs.Machine.{poll_step, timed_step, Leaves, Poll, Has, filter-has, has-append, has-filter, has-filter_map, has-found, has-left, has-right, filter_map-has}
+use Rattle.turn_client_laws.proofs.Machine.{cases_Option, has-unreversed, Lease}
 use Rattle.turn_client_laws.specs.LawsNumbers.{HasDistinctNumbers, number_of_channel}
-use Rattle.turn_client_laws.specs.LawsGone.{IsGivenUp, IsOver, IsPastWith, HasExpiredOrFailed, IsStillThere, grant_identity}
+use Rattle.turn_client_laws.specs.LawsGone.{IsGivenUp, IsNowReserved, IsOver, IsPastWith, IsThereOrOver, HasExpiredOrFailed, grant_identity}
 use Rattle.turn_client_laws.proofs.InAllocationLemmas.{same_family-true}
 use Rattle.turn_client_laws.proofs.MoveLemmas.{Never, Remains, by_test, remains-here}
 use Rattle.turn_client_laws.proofs.MovePollLemmas.{reported-loses}
@@ -37,19 +38,17 @@ one-channel n p q a b (g ∷ gs) apart (inr first) (inr second) =
 -- ---- how time leaves a grant
 
 -- unchanged, or as the reserved channel that it becomes at its expiry
-abbrev Ages : Grant → Grant → Type 0
-Ages g is =
+abbrev Ages : ℕ → Grant → Grant → Type 0
+Ages now g is =
     (is ≡ g)
-    ⊎ ((n : ℕ) × (peer : SocketAddr) × (expiry : Lease) × (g ≡ Channel n peer (Active expiry)) × (is ≡ Channel n peer (Reserved (later_by reserved_time expiry.expiry))))
+    ⊎ ((n : ℕ) × (peer : SocketAddr) × (expiry : Lease) × (g ≡ Channel n peer (Active expiry)) × (is ≡ Channel n peer (Reserved (later_by reserved_time expiry.expiry)))
+    × (expiry.expiry ≤ now))
 
-ages-grant_identity : (g is : Grant) → Ages g is → grant_identity g ≡ grant_identity is
-ages-grant_identity g is ages = grind arith
+ages-family : (now : ℕ) (g is : Grant) → Ages now g is → family_of_grant is ≡ family_of_grant g
+ages-family now g is ages = grind arith
 
-ages-family : (g is : Grant) → Ages g is → family_of_grant is ≡ family_of_grant g
-ages-family g is ages = grind arith
-
-ages-number : (n : ℕ) (g is : Grant) → Ages g is → is_channel_of n is ≡ true → is_channel_of n g ≡ true
-ages-number n g is ages of = grind arith
+ages-number : (now n : ℕ) (g is : Grant) → Ages now g is → is_channel_of n is ≡ true → is_channel_of n g ≡ true
+ages-number now n g is ages of = grind arith
 
 -- a channel of the number
 channel-of : (n : ℕ) (g : Grant) → is_channel_of n g ≡ true → (peer : SocketAddr) × (progress : Progress) × (g ≡ Channel n peer progress)
@@ -63,19 +62,19 @@ module _ (now : ℕ) (s : State) (apart : HasDistinctNumbers s) where
 
   -- it is among these, or has expired
   abbrev Stays : List Grant → Grant → Type 0
-  Stays gs g = ((is : Grant) × Has is gs × Ages g is) ⊎ Over g
+  Stays gs g = ((is : Grant) × Has is gs × Ages now g is) ⊎ Over g
 
   -- from the grants of the state these remain, and those that do not have expired
   record Traces (gs : List Grant) : Type 0 where
     pub left : (g : Grant) → Has g s.grants → Stays gs g
-    pub came : (is : Grant) → Has is gs → (g : Grant) × Has g s.grants × Ages g is
+    pub came : (is : Grant) → Has is gs → (g : Grant) × Has g s.grants × Ages now g is
 
   traces-same : Traces s.grants
   traces-same = record { left = λ g there. inl (g, there, inl refl); came = λ is there. (is, there, inl refl) }
 
   -- these are removed, which have expired
   abbrev TakesOver : (Grant → Bool) → Type 0
-  TakesOver which = (g is : Grant) → Ages g is → which is ≡ true → Over g
+  TakesOver which = (g is : Grant) → Ages now g is → which is ≡ true → Over g
 
   filtered : (which : Grant → Bool) (gs : List Grant) → TakesOver which → Traces gs → Traces (filter (λ g. not (which g)) gs)
   filtered which gs over t = record {
@@ -91,9 +90,9 @@ module _ (now : ℕ) (s : State) (apart : HasDistinctNumbers s) where
       by g (inr gone) = inr gone
 
   -- the channel expires, and is reserved
-  reserved-traces : (n : ℕ) (peer : SocketAddr) (expiry : Lease) (gs : List Grant) → Has (Channel n peer (Active expiry)) gs → Traces gs
+  reserved-traces : (n : ℕ) (peer : SocketAddr) (expiry : Lease) (gs : List Grant) → expiry.expiry ≤ now → Has (Channel n peer (Active expiry)) gs → Traces gs
       → Traces (filter (λ g. not (is_channel_of n g)) gs ++ Channel n peer (Reserved (later_by reserved_time expiry.expiry)) ∷ [])
-  reserved-traces n peer expiry gs here t = record { left = λ g there. by g there (t.left g there); came = λ is there. from is (has-append is kept (held ∷ []) there) }
+  reserved-traces n peer expiry gs passed here t = record { left = λ g there. by g there (t.left g there); came = λ is there. from is (has-append is kept (held ∷ []) there) }
     where
       kept : List Grant
       kept = filter (λ g. not (is_channel_of n g)) gs
@@ -108,31 +107,32 @@ module _ (now : ℕ) (s : State) (apart : HasDistinctNumbers s) where
       first : Has was s.grants
       first = of (t.came was here)
         where
-          of : (g : Grant) × Has g s.grants × Ages g was → Has was s.grants
+          of : (g : Grant) × Has g s.grants × Ages now g was → Has was s.grants
           of (g, there, inl e) = rw e there
-          of (g, there, inr (m, to, end, e, f)) = cc
+          of (g, there, inr (m, to, end, e, f, past)) = cc
 
       last : Has held (kept ++ held ∷ [])
       last = has-right held kept (held ∷ []) (inl refl)
 
       one : (g : Grant) → Has g s.grants → is_channel_of n g ≡ true → Stays (kept ++ held ∷ []) g
       one g there of = let (to, progress, e) = channel-of n g of in
-          inl (held, last, inr (n, peer, expiry, e ∙ one-channel n to peer progress (Active expiry) s.grants apart (rw e at there) first, refl))
+          inl (held, last, inr (n, peer, expiry, e ∙ one-channel n to peer progress (Active expiry) s.grants apart (rw e at there) first, refl, passed))
 
       by : (g : Grant) → Has g s.grants → Stays gs g → Stays (kept ++ held ∷ []) g
       by g there (inl (is, within, ages)) = elim (cases_Bool (is_channel_of n is)) [
-        | inl e ↦ one g there (ages-number n g is ages e)
+        | inl e ↦ one g there (ages-number now n g is ages e)
         | inr e ↦ inl (is, has-left is kept (held ∷ []) (filter-has (λ g. not (is_channel_of n g)) is gs within (rw e refl)), ages)
       ]
       by g there (inr gone) = inr gone
 
-      from : (is : Grant) → Has is kept ⊎ Has is (held ∷ []) → (g : Grant) × Has g s.grants × Ages g is
+      from : (is : Grant) → Has is kept ⊎ Has is (held ∷ []) → (g : Grant) × Has g s.grants × Ages now g is
       from is (inl within) = t.came is (has-filter (λ g. not (is_channel_of n g)) is gs within).0
-      from is (inr (inl e)) = (was, first, inr (n, peer, expiry, refl, e))
+      from is (inr (inl e)) = (was, first, inr (n, peer, expiry, refl, e, passed))
       from is (inr (inr none)) = absurd none
 
-  channel-traces : (o : Option Grant) (t : State) → ((g : Grant) → o ≡ Some g → Has g t.grants) → Traces t.grants → Traces (channel_expired o t).grants
-  channel-traces (Some (Channel n peer (Active expiry))) t there traces = reserved-traces n peer expiry t.grants (there (Channel n peer (Active expiry)) refl) traces
+  channel-traces : (o : Option Grant) (t : State) → ((g : Grant) → o ≡ Some g → Has g t.grants × (is_expired_channel now g ≡ true)) → Traces t.grants → Traces (channel_expired o t).grants
+  channel-traces (Some (Channel n peer (Active expiry))) t there traces =
+      let (here, passed) = there (Channel n peer (Active expiry)) refl in reserved-traces n peer expiry t.grants (leb-true expiry.expiry now passed) here traces
   channel-traces o t there traces = traces
 
   -- ---- what is removed has expired
@@ -141,18 +141,18 @@ module _ (now : ℕ) (s : State) (apart : HasDistinctNumbers s) where
   permission-over : (family : AddressFamily) → TakesOver (λ g. is_of family g && is_expired_permission now g)
   permission-over family g is ages e = by is ages (and_parts (is_of family is) (is_expired_permission now is) e).1
     where
-      by : (is : Grant) → Ages g is → is_expired_permission now is ≡ true → Over g
+      by : (is : Grant) → Ages now g is → is_expired_permission now is ≡ true → Over g
       by (Permission ip (Active expiry)) (inl e) expired_at = inl (rw (sym e) (leb-true expiry.expiry now expired_at))
-      by (Permission ip (Active expiry)) (inr (n, peer, end, e, f)) expired_at = cc
+      by (Permission ip (Active expiry)) (inr (n, peer, end, e, f, passed)) expired_at = cc
       by is _ expired_at = cc
 
   -- what was reserved long enough
   free-over : (family : AddressFamily) → TakesOver (λ g. is_of family g && is_over now g)
   free-over family g is ages e = by is ages (and_parts (is_of family is) (is_over now is) e).1
     where
-      by : (is : Grant) → Ages g is → is_over now is ≡ true → Over g
+      by : (is : Grant) → Ages now g is → is_over now is ≡ true → Over g
       by (Channel n peer (Reserved until)) (inl e) over = inl (rw (sym e) (ltb-true until now over))
-      by (Channel n peer (Reserved until)) (inr (m, to, expiry, e, f)) over =
+      by (Channel n peer (Reserved until)) (inr (m, to, expiry, e, f, passed)) over =
           let same : until ≡ later_by reserved_time expiry.expiry = cc in
           inl (rw e (ltb-true (later_by reserved_time expiry.expiry) now (rw same at over)))
       by is a over = cc
@@ -160,7 +160,7 @@ module _ (now : ℕ) (s : State) (apart : HasDistinctNumbers s) where
   -- all grants in an allocation whose expiry has passed
   family-over : (a : Relay) → Has (Allocation a) s.grants → a.expiry ≤ now → TakesOver (is_of (family_of a.relayed))
   family-over a there past g is ages e =
-      inr (a, has-contains (Allocation a) s.grants there, sym (ages-family g is ages) ∙ same_family-true (family_of_grant is) (family_of a.relayed) e, past)
+      inr (a, has-contains (Allocation a) s.grants there, sym (ages-family now g is ages) ∙ same_family-true (family_of_grant is) (family_of a.relayed) e, past)
 
   module _ (x : Option Transaction) (e : timed_out_transaction (agent_of s) now ≡ x) where
     abbrev given : Option ℕ
@@ -186,9 +186,9 @@ module _ (now : ℕ) (s : State) (apart : HasDistinctNumbers s) where
         let (first, for) = and_parts (is_of family is && which is) (is_for_any purposes is) e in
         by ages (vain is (and_parts (is_of family is) (which is) first).1) (asked-vain is for)
       where
-        by : Ages g is → (IsGivenUp now s is → HasExpiredOrFailed now s is) × ((n : ℕ) (peer : SocketAddr) (until : ℕ) → is ≡ Channel n peer (Reserved until) → ⊥) → IsGivenUp now s is → Over g
+        by : Ages now g is → (IsGivenUp now s is → HasExpiredOrFailed now s is) × ((n : ℕ) (peer : SocketAddr) (until : ℕ) → is ≡ Channel n peer (Reserved until) → ⊥) → IsGivenUp now s is → Over g
         by (inl same) (spent, free) up = inl (subst (HasExpiredOrFailed now s) same (spent up))
-        by (inr (n, peer, expiry, e, f)) (spent, free) up = absurd (free n peer (later_by reserved_time expiry.expiry) f)
+        by (inr (n, peer, expiry, e, f, passed)) (spent, free) up = absurd (free n peer (later_by reserved_time expiry.expiry) f)
 
     channel-vain : IsVain is_pending_channel
     channel-vain g e = grind arith
@@ -213,9 +213,9 @@ module _ (now : ℕ) (s : State) (apart : HasDistinctNumbers s) where
             ] in
             (deadline, f, up)
 
-        by : (is : Grant) → Ages g is → is_unbound purposes now is ≡ true → Over g
+        by : (is : Grant) → Ages now g is → is_unbound purposes now is ≡ true → Over g
         by (Connection c) (inl same) unbound = inl (subst (HasExpiredOrFailed now s) same (spent c c.deadline refl unbound))
-        by (Connection c) (inr (n, peer, expiry, e, f)) unbound = cc
+        by (Connection c) (inr (n, peer, expiry, e, f, passed)) unbound = cc
         by is _ unbound = cc
 
     -- an offer whose request timed out
@@ -231,9 +231,9 @@ module _ (now : ℕ) (s : State) (apart : HasDistinctNumbers s) where
         no is (Some t) none of = let clash : true ≡ false = sym of ∙ none t.id in cc
         no is None none of = cc
 
-        by : (is : Grant) → Ages g is → is_timed_out_offer given is ≡ true → Over g
+        by : (is : Grant) → Ages now g is → is_timed_out_offer given is ≡ true → Over g
         by (Offer offer) (inl same) of = inl (subst (HasExpiredOrFailed now s) same (up offer x e of))
-        by (Offer offer) (inr (n, peer, expiry, e, f)) of = cc
+        by (Offer offer) (inr (n, peer, expiry, e, f, passed)) of = cc
         by is a of = absurd (no is x (λ id. refl) of)
 
     -- ---- one allocation after the other
@@ -250,7 +250,9 @@ module _ (now : ℕ) (s : State) (apart : HasDistinctNumbers s) where
         let has_expired = λ (y : Grant). is_of family y && is_expired_channel now y in
         let in_a = filtered _ t.grants (vain-over family is_pending_channel channel-vain) traces in
         let in_b = filtered _ a.grants (vain-over family is_pending_permission permission-vain) in_a in
-        let in_c = channel-traces (find has_expired (reverse b.grants)) b (λ y found. has-unreversed y b.grants (has-found has_expired y (reverse b.grants) found).0) in_b in
+        let in_c = channel-traces (find has_expired (reverse b.grants)) b (λ y found.
+        let (there, is) = has-found has_expired y (reverse b.grants) found in
+        (has-unreversed y b.grants there, (and_parts (is_of family y) (is_expired_channel now y) is).1)) in_b in
         let in_d = filtered _ c.grants (permission-over family) in_c in
         let in_f = filtered _ d.grants (vain-over family is_connect connect-vain) in_d in
         let in_g = filtered _ f.grants (unbound-over family) in_f in
@@ -283,16 +285,25 @@ module _ (now : ℕ) (s : State) (apart : HasDistinctNumbers s) where
 
   -- ---- a poll
 
+  -- it was an active channel that expired, and is reserved
+  abbrev IsHeld : List Grant → Grant → Type 0
+  IsHeld gs (Channel n peer (Active lease)) = (lease.expiry ≤ now) × Has (Channel n peer (Reserved (later_by reserved_time lease.expiry))) gs
+  IsHeld gs g = ⊥
+
   -- what no longer exists has expired
   abbrev Spares : List Grant → Type 0
-  Spares gs = (g : Grant) → Has g s.grants → Remains g gs ⊎ IsOver now s g
+  Spares gs = (g : Grant) → Has g s.grants → Remains g gs ⊎ IsHeld gs g ⊎ IsOver now s g
 
   spares-same : Spares s.grants
   spares-same g there = inl (remains-here g s.grants there)
 
   traces-spare : (gs : List Grant) → s.phase ≡ Allocated → Traces gs → Spares gs
   traces-spare gs phase t g there =
-      elim (t.left g there) [ inl (is, here, ages) ↦ inl (is, here, ages-grant_identity g is ages) | inr over ↦ inr (phase, over) ]
+      elim (t.left g there) [ inl (is, here, ages) ↦ aged is here ages | inr over ↦ inr (inr (phase, over)) ]
+    where
+      aged : (is : Grant) → Has is gs → Ages now g is → Remains g gs ⊎ IsHeld gs g ⊎ IsOver now s g
+      aged is here (inl e) = inl (is, here, ap grant_identity (sym e))
+      aged is here (inr (n, peer, lease, e, f, passed)) = inr (inl (subst (IsHeld gs) (sym e) (passed, subst (λ (x : Grant). Has x gs) f here)))
 
   answer-grants : (given : Option ℕ) (t : State) → (answer_step given now t).1.grants ≡ t.grants
   answer-grants given t = grind arith
@@ -334,12 +345,20 @@ module _ (now : ℕ) (s : State) (apart : HasDistinctNumbers s) where
       offered (Some offer) = reported offer
 
 -- even if memory allocation fails
-pub poll-over : (now : ℕ) (s t : State) (g : Grant) → Leaves (Poll now) s t → HasDistinctNumbers s → Contains s.grants g → IsStillThere t g ⊎ IsOver now s g
-poll-over now s t g leaves apart there = elim (of leaves) [ inl (is, h, same) ↦ inl (is, has-contains is t.grants h, same) | inr over ↦ inr over ]
+pub poll-over : (now : ℕ) (s t : State) (g : Grant) → Leaves (Poll now) s t → HasDistinctNumbers s → Contains s.grants g → IsThereOrOver now s t g
+poll-over now s t g leaves apart there = elim (of leaves) [
+  | inl (is, h, same) ↦ inl (is, has-contains is t.grants h, same)
+  | inr (inl held) ↦ inr (inl (reserved g held))
+  | inr (inr over) ↦ inr (inr over)
+]
   where
     here : Has g s.grants
     here = contains-has g s.grants there
 
-    of : Leaves (Poll now) s t → Remains g t.grants ⊎ IsOver now s g
-    of (inl e) = subst (λ (u : State). Remains g u.grants ⊎ IsOver now s g) (sym e) (poll-spares now s apart g here)
-    of (inr e) = subst (λ (u : State). Remains g u.grants ⊎ IsOver now s g) (sym e) (inl (remains-here g s.grants here))
+    reserved : (g : Grant) → IsHeld now s apart t.grants g → IsNowReserved now t g
+    reserved (Channel n peer (Active lease)) (passed, is) = (passed, has-contains (Channel n peer (Reserved (later_by reserved_time lease.expiry))) t.grants is)
+    reserved g none = absurd none
+
+    of : Leaves (Poll now) s t → Remains g t.grants ⊎ IsHeld now s apart t.grants g ⊎ IsOver now s g
+    of (inl e) = subst (λ (u : State). Remains g u.grants ⊎ IsHeld now s apart u.grants g ⊎ IsOver now s g) (sym e) (poll-spares now s apart g here)
+    of (inr e) = subst (λ (u : State). Remains g u.grants ⊎ IsHeld now s apart u.grants g ⊎ IsOver now s g) (sym e) (inl (remains-here g s.grants here))

@@ -1,11 +1,12 @@
 -- Which call removes a grant, by its kind (RFC 8656, sections 7 to 12; RFC 6062, section 4).
-use Rattle.std.specs.Prelude.{◌≡◌, ◌⊎◌, ◌<◌, ◌≤◌, ℕ, true, false, List, None, Some, Option, IsSome}
+use Rattle.std.specs.Prelude.{◌≡◌, ◌⊎◌, ◌<◌, ◌≤◌, ℕ, true, false, List, None, Some, Option, IsSome, option_map}
 use Rattle.std.specs.List.{Contains}
 use Rattle.turn_agent.specs.Agent.{timed_out_transaction}
 use Rattle.turn_agent.specs.declared.transaction.Transaction.{Transaction}
 use Rattle.turn_client_api.specs.State.{State}
 use Rattle.turn_client_api.specs.declared.grant.Grant.{Grant}
 use Rattle.turn_client_api.specs.declared.grant.Grant.TheVariants.{Allocation, Permission, Channel, Connect, Offer, Connection}
+use Rattle.turn_client_api.specs.declared.grant.Progress.{Progress}
 use Rattle.turn_client_api.specs.declared.grant.Progress.TheVariants.{Pending, Active, Reserved}
 use Rattle.turn_client_api.specs.declared.grant.Relay.{Relay}
 use Rattle.turn_client_api.specs.declared.grant.Purpose.{Purpose}
@@ -27,16 +28,22 @@ use Rattle.turn_client_api.specs.Due.{expiry_times}
 use Rattle.turn_client_laws.specs.LawsReplies.{IsAccepted}
 use Rattle.turn_client_laws.specs.LawsRequests.{IsAnswer}
 
--- the grant without what may change of it: its progress, its times, and whether it was reported
+-- whether it is pending, active or reserved
+abbrev pub stage_of : Progress → Progress
+stage_of (Pending is_kept) = Pending true
+stage_of (Active lease) = Active (record { expiry = 0; is_kept = true })
+stage_of (Reserved until) = Reserved 0
+
+-- the grant without what may change of it: its times, whether it is kept, and whether it was reported
 abbrev pub grant_identity : Grant → Grant
 grant_identity (Allocation a) = Allocation (record { relayed = a.relayed; first_lifetime = 0; expiry = 0; is_expired = false })
-grant_identity (Permission ip progress) = Permission ip (Pending true)
-grant_identity (Channel number peer progress) = Channel number peer (Pending true)
+grant_identity (Permission ip progress) = Permission ip (stage_of progress)
+grant_identity (Channel number peer progress) = Channel number peer (stage_of progress)
 grant_identity (Connect peer) = Connect peer
 grant_identity (Offer offer) = Offer (record offer { is_reported = false })
-grant_identity (Connection c) = Connection (record c { deadline = None })
+grant_identity (Connection c) = Connection (record c { deadline = option_map (λ deadline. 0) c.deadline })
 
--- it exists, whatever its progress
+-- it exists, as far as it was: pending, active or reserved, a data connection bound or not
 abbrev pub IsStillThere : State → Grant → Type 0
 IsStillThere s g = (is : Grant) × Contains s.grants is × (grant_identity g ≡ grant_identity is)
 
@@ -102,9 +109,15 @@ IsPastWith now s g =
 abbrev pub IsOver : ℕ → State → Grant → Type 0
 IsOver now s g = (s.phase ≡ Allocated) × (HasExpiredOrFailed now s g ⊎ IsPastWith now s g)
 
+-- it was an active channel, whose expiry has passed, and which is reserved now
+abbrev pub IsNowReserved : ℕ → State → Grant → Type 0
+IsNowReserved now t (Channel number peer (Active lease)) =
+    (lease.expiry ≤ now) × Contains t.grants (Channel number peer (Reserved (later_by reserved_time lease.expiry)))
+IsNowReserved now t _ = ⊥
+
 -- it exists after the `poll`, or has expired
 abbrev pub IsThereOrOver : ℕ → State → State → Grant → Type 0
-IsThereOrOver now s t g = IsStillThere t g ⊎ IsOver now s g
+IsThereOrOver now s t g = IsStillThere t g ⊎ IsNowReserved now t g ⊎ IsOver now s g
 
 -- ---- by a call
 

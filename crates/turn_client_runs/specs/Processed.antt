@@ -19,8 +19,8 @@ ActivatesNothing call s =
 
 -- `recv` and `poll_recv` change what their inputs change, one after the other, and apart from the bytes in
 -- the streams nothing else, or the server closed a stream. No other call activates a grant. No call takes a grant away
--- but those that it names, by its kind, its arguments and its inputs, and a `poll` those that are over. The data of peers
--- that a call returns is that of its inputs.
+-- but those that it names, by its kind, its arguments and its inputs, and a `poll` those that are over: the others stay
+-- pending, active or reserved. The data of peers that a call returns is that of its inputs.
 pub record ProcessesAll (call : Call) (s : State) : Type 0 where
   pub inputs : TakesInput call → ProcessesInputs call s
   pub others : (TakesInput call → ⊥) → ActivatesNothing call s

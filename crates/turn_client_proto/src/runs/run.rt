@@ -74,7 +74,8 @@ pub struct Replayed {
 ///   bytes in the streams nothing else, or the server closed a stream. No other call activates a grant. The data
 ///   of peers that a call returns is that of its inputs. A call takes a grant away only if it names it: by its kind and
 ///   arguments, by a signed reply to a request for it or a message of its connection among the inputs, by the end of its
-///   stream, or, if it is a `poll`, since the grant or its allocation is over.
+///   stream, or, if it is a `poll`, since the grant or its allocation is over. What it does not take stays pending, active or
+///   reserved, and a data connection bound, but for an active channel that a `poll` reserves at its expiry.
 /// - `order`: the inputs out of a stream are all that arrives for it, in order: what it held before any
 ///   consecutive calls, and then what arrived for it in them, is what they took out of it, and then the rest, unless one of
 ///   them opens the stream. It holds the rest, unless it is broken: then it was so before, or the rest begins with a byte
