@@ -17,6 +17,10 @@ pub mod ComingLemmas
 pub mod CutRelayLemmas
 pub mod DeliveryLemmas
 pub mod DeliveryRuns
+pub mod EndCalls
+pub mod EndLemmas
+pub mod EndMessages
+pub mod EndRuns
 pub mod EventCalls
 pub mod EventInputs
 pub mod EventLemmas

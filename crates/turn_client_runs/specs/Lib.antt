@@ -7,6 +7,8 @@ pub mod Cut
 pub mod CutRelayRows
 pub mod CutRows
 pub mod Deliveries
+pub mod EndRows
+pub mod Ends
 pub mod Events
 pub mod Granted
 pub mod Handshake

@@ -21,6 +21,7 @@ mod calm;
 mod challenges;
 mod cut;
 mod deliveries;
+mod ends;
 mod granted;
 mod handshake;
 mod lasting;
@@ -48,6 +49,7 @@ pub use cut::{
     streams_give_the_same_for_any_cut, wholes_are_frames,
 };
 pub use deliveries::{data_of_peers_is_returned, deliveries_are_worked};
+pub use ends::{ends_are_told, ends_are_worked};
 pub use granted::grants_have_replies;
 pub use handshake::{a_handshake_succeeds, handshakes_succeed};
 pub use lasting::{

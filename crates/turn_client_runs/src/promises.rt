@@ -2,6 +2,7 @@
 
 ghost use Rattle.turn_client_runs.specs.Calm.{TrafficIsCalm};
 ghost use Rattle.turn_client_runs.specs.Deliveries.{DataIsReturned};
+ghost use Rattle.turn_client_runs.specs.Ends.{TellsItsEnd};
 ghost use Rattle.turn_client_runs.specs.Events.{EventsHaveCauses};
 ghost use Rattle.turn_client_runs.specs.Holds.{HoldsOfRuns};
 ghost use Rattle.turn_client_runs.specs.LastingRuns.{GrantsLastInRuns};
@@ -25,8 +26,9 @@ ghost use Rattle.turn_client_runs.specs.Short.{StreamsAreShort};
 /// event that is returned has its cause in the calls before. Streams that are polled to the end hold less than the
 /// longest frame, and the pieces of a stream return what their joined bytes return. In each part of a run in which
 /// the server answers and the caller is late by little, no grant is lost that is kept. Data of peers makes nothing
-/// due. The clauses are laws of this crate, stated for one run; `held`, `processed`, `events`, `short`, and what
-/// `heard` and `realm` say of each input, are proved here alone.
+/// due, and `poll` tells that the client has ended only if it has. The clauses are laws of this crate, stated for
+/// one run; `held`, `processed`, `events`, `short`, and what `heard` and `realm` say of each input, are proved here
+/// alone.
 pub fn runs_keep_their_promises()
     ensures granted { HoldsOfRuns (AfterEach GrantsHaveReplies) }
     ensures numbers { HoldsOfRuns (AfterEach NumbersAreDistinct) }
@@ -47,4 +49,5 @@ pub fn runs_keep_their_promises()
     ensures cuts { HoldsOfRuns CutsAgree }
     ensures lasts { HoldsOfRuns GrantsLastInRuns }
     ensures calm { HoldsOfRuns TrafficIsCalm }
+    ensures ends { HoldsOfRuns TellsItsEnd }
 {}

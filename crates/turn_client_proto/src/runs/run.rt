@@ -10,6 +10,7 @@ ghost use Rattle.turn_client_runs.specs.Promises.{AfterEach, BoundHaveSuccess, C
 ghost use Rattle.turn_client_runs.specs.Promises.{NumbersAreDistinct, RealmIsAnswered, RealmStays, RepliesCountOnce};
 ghost use Rattle.turn_client_runs.specs.Calm.{TrafficIsCalm};
 ghost use Rattle.turn_client_runs.specs.Deliveries.{DataIsReturned};
+ghost use Rattle.turn_client_runs.specs.Ends.{TellsItsEnd};
 ghost use Rattle.turn_client_runs.specs.Events.{EventsHaveCauses};
 ghost use Rattle.turn_client_runs.specs.LastingRuns.{GrantsLastInRuns};
 ghost use Rattle.turn_client_runs.specs.Offers.{BoundAreOffered};
@@ -116,6 +117,12 @@ pub struct Replayed {
 ///   `grants_last_while_the_server_answers` (`behind`). In the whole run a signed success that comes ends its request.
 /// - `calm`: from a `poll` on that returned a later time, nothing is due before that time after any calls that send data to
 ///   peers, receive data or ICMP reports of peers, or look; over TCP if nothing else is processed with them.
+/// - `ends`: where `poll` returns that the client has ended, one of the calls up to it ended the client, which has ended since:
+///   `protocol_error`; a message that grants none of the addresses that are requested, confirms that the allocations are deleted,
+///   cannot be trusted while addresses are requested, or is one challenge too many; or a `poll` at which an ALLOCATE had no response in
+///   time, or each allocation had expired (RFC 8656, sections 7 and 8; RFC 8489, sections 6.2 and 9.2). `protocol_error` and each
+///   such message end the client for good. And `poll` returns so of each client that has ended, once all events, replies to the
+///   server and closes are taken.
 /// - `alarm`: a caller that sleeps until the time that each `poll` returns misses no deadline, and no expiry of an
 ///   allocation, whether or not it is marked as expired.
 ///
@@ -161,6 +168,7 @@ pub fn replay(
     ensures cuts { CutsAgree (initial transport local remote config seed) calls.now }
     ensures lasts { GrantsLastInRuns (initial transport local remote config seed) calls.now }
     ensures calm { TrafficIsCalm (initial transport local remote config seed) calls.now }
+    ensures ends { TellsItsEnd (initial transport local remote config seed) calls.now }
     ensures alarm { SleepsThroughNothing (initial transport local remote config seed) calls.now }
 {
     make_run(alloc, transport, local, remote, config, seed, calls)

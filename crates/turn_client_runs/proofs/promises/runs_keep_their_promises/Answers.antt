@@ -2,6 +2,7 @@ use Rattle.turn_client_runs.proofs.PromiseLemmas.{run-bound, run-cuts, run-event
 use Rattle.turn_client_runs.proofs.PromiseLemmas.{run-replies, run-sent, run-short}
 use Rattle.turn_client_runs.proofs.CalmRuns.{run-calm}
 use Rattle.turn_client_runs.proofs.DeliveryRuns.{run-returns}
+use Rattle.turn_client_runs.proofs.EndRuns.{run-tells-end}
 use Rattle.turn_client_runs.proofs.SendsRuns.{run-sends_to}
 use Rattle.turn_client_runs.proofs.promises.runs_keep_their_promises.Goals as goal
 
@@ -26,4 +27,5 @@ returns c = record {
   cuts = run-cuts;
   lasts = run-lasts;
   calm = run-calm;
+  ends = run-tells-end;
 }

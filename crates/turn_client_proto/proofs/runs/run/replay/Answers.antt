@@ -4,6 +4,7 @@ use Rattle.turn_client_runs.proofs.PacedLemmas.{run-paced}
 use Rattle.turn_client_runs.proofs.ReportedRuns.{causes-reported-once}
 use Rattle.turn_client_runs.proofs.CalmRuns.{run-calm}
 use Rattle.turn_client_runs.proofs.DeliveryRuns.{run-returns}
+use Rattle.turn_client_runs.proofs.EndRuns.{run-tells-end}
 use Rattle.turn_client_runs.proofs.SendsRuns.{run-sends_to}
 use Rattle.turn_client_api.specs.State.{initial}
 use Rattle.turn_client_proto.proofs.DeliveredLemmas.{gives-let-in}
@@ -77,6 +78,9 @@ returns-clause-lasts c = run-lasts c.args.transport c.args.local c.args.remote c
 
 pub returns-clause-calm : goal.returns-clause-calm
 returns-clause-calm c = run-calm c.args.transport c.args.local c.args.remote c.args.config c.args.seed c.args.calls.now
+
+pub returns-clause-ends : goal.returns-clause-ends
+returns-clause-ends c = run-tells-end c.args.transport c.args.local c.args.remote c.args.config c.args.seed c.args.calls.now
 
 pub returns-clause-alarm : goal.returns-clause-alarm
 returns-clause-alarm c = timely c.args.transport c.args.local c.args.remote c.args.config c.args.seed c.args.calls.now c.requires.callable
