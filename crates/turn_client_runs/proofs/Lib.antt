@@ -114,5 +114,6 @@ pub mod SleepLemmas
 pub mod StreamAtLemmas
 pub mod StreamWalk
 pub mod TogetherLemmas
+pub mod TriedLemmas
 pub mod UnboundStreams
 pub mod WholeLemmas

@@ -47,3 +47,5 @@ pub mod Server
 pub mod Short
 pub mod Silence
 pub mod Sleeps
+pub mod Tried
+pub mod TriedRows

@@ -39,6 +39,7 @@ mod sent;
 mod server;
 mod silence;
 mod sleeps;
+mod tried;
 
 pub use bound::{bound_connections_have_their_success, bound_streams_have_their_success};
 pub use busy::without_waits_a_client_is_busy_for_ever;
@@ -70,3 +71,4 @@ pub use sent::{packets_are_worked, packets_go_out};
 pub use server::requests_can_be_granted;
 pub use silence::silence_ends_a_client;
 pub use sleeps::runs_miss_no_deadline;
+pub use tried::{requests_are_tried, tries_are_worked};

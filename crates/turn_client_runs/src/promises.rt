@@ -14,6 +14,7 @@ ghost use Rattle.turn_client_runs.specs.Promises.{NumbersAreDistinct, RealmIsAns
 ghost use Rattle.turn_client_runs.specs.Sends.{ReachablePeersAreSentTo};
 ghost use Rattle.turn_client_runs.specs.Sent.{PacketsGoOut};
 ghost use Rattle.turn_client_runs.specs.Short.{StreamsAreShort};
+ghost use Rattle.turn_client_runs.specs.Tried.{RequestsAreTried};
 
 /// What a run of a new client keeps, whatever its configuration, its seed and its calls, if no memory allocation
 /// fails. After each call every active grant has its signed reply to an own request, no channel number names two
@@ -26,9 +27,9 @@ ghost use Rattle.turn_client_runs.specs.Short.{StreamsAreShort};
 /// event that is returned has its cause in the calls before. Streams that are polled to the end hold less than the
 /// longest frame, and the pieces of a stream return what their joined bytes return. In each part of a run in which
 /// the server answers and the caller is late by little, no grant is lost that is kept. Data of peers makes nothing
-/// due, and `poll` tells that the client has ended only if it has. The clauses are laws of this crate, stated for
-/// one run; `held`, `processed`, `events`, `short`, and what `heard` and `realm` say of each input, are proved here
-/// alone.
+/// due. A request is tried as often as configured, and `poll` tells that the client has ended only if it has. The
+/// clauses are laws of this crate, stated for one run; `held`, `processed`, `events`, `short`, and what `heard` and
+/// `realm` say of each input, are proved here alone.
 pub fn runs_keep_their_promises()
     ensures granted { HoldsOfRuns (AfterEach GrantsHaveReplies) }
     ensures numbers { HoldsOfRuns (AfterEach NumbersAreDistinct) }
@@ -49,5 +50,6 @@ pub fn runs_keep_their_promises()
     ensures cuts { HoldsOfRuns CutsAgree }
     ensures lasts { HoldsOfRuns GrantsLastInRuns }
     ensures calm { HoldsOfRuns TrafficIsCalm }
+    ensures tried { HoldsOfRuns RequestsAreTried }
     ensures ends { HoldsOfRuns TellsItsEnd }
 {}

@@ -20,6 +20,7 @@ ghost use Rattle.turn_client_runs.specs.Sent.{PacketsGoOut};
 ghost use Rattle.turn_client_runs.specs.Short.{StreamsAreShort};
 ghost use Rattle.turn_client_runs.specs.Sleeps.{SleepsThroughNothing};
 ghost use Rattle.turn_client_runs.specs.Reported.{CausesAreReportedOnce};
+ghost use Rattle.turn_client_runs.specs.Tried.{RequestsAreTried};
 ghost use Rattle.turn_client_proto.specs.Delivered.{AnswersOnlyPermitted};
 ghost use Rattle.turn_client_api.specs.Steps.{state_after_all};
 
@@ -117,6 +118,10 @@ pub struct Replayed {
 ///   `grants_last_while_the_server_answers` (`behind`). In the whole run a signed success that comes ends its request.
 /// - `calm`: from a `poll` on that returned a later time, nothing is due before that time after any calls that send data to
 ///   peers, receive data or ICMP reports of peers, or look; over TCP if nothing else is processed with them.
+/// - `tried`: a request times out only at a `poll` before which `poll_transmit` gave each retransmission that the configuration
+///   names, under its ID, each once the wait of an outstanding request of this ID was over, and after its last wait (RFC 8489, section
+///   6.2.1). While an outstanding request has waited that is to be repeated, each `poll_transmit` retransmits such a one; and while
+///   one has waited that is not, each `poll` gives such a one up, once all events, replies and offers are taken.
 /// - `ends`: where `poll` returns that the client has ended, one of the calls up to it ended the client, which has ended since:
 ///   `protocol_error`; a message that grants none of the addresses that are requested, confirms that the allocations are deleted,
 ///   cannot be trusted while addresses are requested, or is one challenge too many; or a `poll` at which an ALLOCATE had no response in
@@ -168,6 +173,7 @@ pub fn replay(
     ensures cuts { CutsAgree (initial transport local remote config seed) calls.now }
     ensures lasts { GrantsLastInRuns (initial transport local remote config seed) calls.now }
     ensures calm { TrafficIsCalm (initial transport local remote config seed) calls.now }
+    ensures tried { RequestsAreTried (initial transport local remote config seed) calls.now }
     ensures ends { TellsItsEnd (initial transport local remote config seed) calls.now }
     ensures alarm { SleepsThroughNothing (initial transport local remote config seed) calls.now }
 {

@@ -4,6 +4,7 @@ use Rattle.turn_client_runs.proofs.CalmRuns.{run-calm}
 use Rattle.turn_client_runs.proofs.DeliveryRuns.{run-returns}
 use Rattle.turn_client_runs.proofs.EndRuns.{run-tells-end}
 use Rattle.turn_client_runs.proofs.SendsRuns.{run-sends_to}
+use Rattle.turn_client_runs.proofs.TriedLemmas.{run-tried}
 use Rattle.turn_client_runs.proofs.promises.runs_keep_their_promises.Goals as goal
 
 pub returns : goal.returns
@@ -27,5 +28,6 @@ returns c = record {
   cuts = run-cuts;
   lasts = run-lasts;
   calm = run-calm;
+  tried = run-tried;
   ends = run-tells-end;
 }

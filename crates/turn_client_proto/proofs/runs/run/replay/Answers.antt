@@ -6,6 +6,7 @@ use Rattle.turn_client_runs.proofs.CalmRuns.{run-calm}
 use Rattle.turn_client_runs.proofs.DeliveryRuns.{run-returns}
 use Rattle.turn_client_runs.proofs.EndRuns.{run-tells-end}
 use Rattle.turn_client_runs.proofs.SendsRuns.{run-sends_to}
+use Rattle.turn_client_runs.proofs.TriedLemmas.{run-tried}
 use Rattle.turn_client_api.specs.State.{initial}
 use Rattle.turn_client_proto.proofs.DeliveredLemmas.{gives-let-in}
 use Rattle.turn_client_proto.proofs.RunLemmas.{timely}
@@ -78,6 +79,9 @@ returns-clause-lasts c = run-lasts c.args.transport c.args.local c.args.remote c
 
 pub returns-clause-calm : goal.returns-clause-calm
 returns-clause-calm c = run-calm c.args.transport c.args.local c.args.remote c.args.config c.args.seed c.args.calls.now
+
+pub returns-clause-tried : goal.returns-clause-tried
+returns-clause-tried c = run-tried c.args.transport c.args.local c.args.remote c.args.config c.args.seed c.args.calls.now
 
 pub returns-clause-ends : goal.returns-clause-ends
 returns-clause-ends c = run-tells-end c.args.transport c.args.local c.args.remote c.args.config c.args.seed c.args.calls.now
