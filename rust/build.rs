@@ -6,6 +6,7 @@
 //! linked then.
 
 use std::env;
+use std::mem;
 use std::path::{Path, PathBuf};
 use std::process::Command;
 
@@ -63,13 +64,31 @@ pub(crate) fn instructions(
             "warning=YARROWDOOR_DIST is {folder}, which has no {ARCHIVE}"
         ));
     } else if let Some(flags) = ask() {
-        lines.extend(flags.split_whitespace().filter_map(instruction));
+        lines.extend(words(&flags).iter().filter_map(|flag| instruction(flag)));
     } else {
         let what =
             "no library to link: tools/build/library builds it, or YARROWDOOR_DIST names its folder";
         lines.push(format!("warning={what}"));
     }
     lines
+}
+
+/// The words that pkg-config prints. A backslash stands before each character that a shell would read otherwise, as a space in the
+/// name of a folder.
+fn words(printed: &str) -> Vec<String> {
+    let mut words = Vec::new();
+    let mut word = String::new();
+    let mut characters = printed.chars();
+    while let Some(character) = characters.next() {
+        match character {
+            '\\' => word.extend(characters.next()),
+            _ if character.is_whitespace() => words.push(mem::take(&mut word)),
+            _ => word.push(character),
+        }
+    }
+    words.push(word);
+    words.retain(|word| !word.is_empty());
+    words
 }
 
 /// What cargo is told for one flag of a linker. Others than folders and libraries are left out.

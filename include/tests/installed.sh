@@ -1,5 +1,5 @@
 # SPDX-License-Identifier: MIT OR Apache-2.0
-# Part of tools/check/test-library: the library as it is installed, found by pkg-config and by CMake, and moved.
+# Part of tools/check/test-library: the library as it is installed, found by pkg-config, CMake and cargo, and moved.
 # shellcheck disable=SC2086,SC2154 # $warnings, $memcheck and their like are several words; who reads this sets $dist
 
 # Runs the exchange of turn_replay by a program, which gets the same answers.
@@ -49,6 +49,17 @@ link_by_cmake() {
     ! ldd "$to/replay" | grep libyarrowdoor || return 1
     answers_trace "$to/replay"
     answers_trace "$to/replay_shared"
+}
+
+# The package for Rust, with no library beside it, over the one that pkg-config finds.
+link_by_cargo() {
+    local to="$room/a package" target="$room/a target"
+    export PKG_CONFIG_PATH=$installed/lib/pkgconfig LD_LIBRARY_PATH=$installed/lib
+    unset YARROWDOOR_DIST
+    mkdir -p "$to"
+    tar --exclude=target -c rust include/tests/renamed | tar -x -C "$to"
+    [ "$(cargo run --offline --manifest-path "$to/include/tests/renamed/Cargo.toml" --target-dir "$target")" = 40 ]
+    ldd "$target/debug/renamed" | grep -F "libyarrowdoor.so.0 => $installed/lib"
 }
 
 # A folder that was moved after it was installed for that.
@@ -139,6 +150,9 @@ test_installed() {
         step "installed: by pkg-config" link_installed "$installed/lib/pkgconfig" "$room/by_pc"
         step "installed: by pkg-config, with the libraries apart" link_installed "$room/libs/pkgconfig" "$room/by_pc_apart"
         step "installed: by pkg-config, moved" link_installed "$room/away/there/lib/pkgconfig" "$room/by_pc_moved"
+    fi
+    if has pkg-config "an installed library by cargo" && has cargo "an installed library by cargo"; then
+        step "installed: by cargo" link_by_cargo
     fi
     step "a tarball: all is there" check_tree
     step "a tarball in a folder with a space in its name" use_tree

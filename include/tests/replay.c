@@ -10,6 +10,10 @@
 #include <inttypes.h>
 #include <stdlib.h>
 #include <string.h>
+#ifdef _WIN32
+#include <fcntl.h>
+#include <io.h>
+#endif
 
 enum { ANSWERED = 0, BAD_LINE = 2, NO_MEMORY = 3, FAILED = 4 };
 
@@ -160,6 +164,17 @@ static int run_named(const char *folder, const char *name)
     return status;
 }
 
+/* The standard streams as they are: Windows would write two bytes for the end of a line. */
+static int run_streams(void)
+{
+#ifdef _WIN32
+    if (_setmode(_fileno(stdin), _O_BINARY) == -1 || _setmode(_fileno(stdout), _O_BINARY) == -1) {
+        return FAILED;
+    }
+#endif
+    return run_file(stdin, stdout);
+}
+
 int main(int argc, char **argv)
 {
     int first = 1;
@@ -172,7 +187,7 @@ int main(int argc, char **argv)
         first += 2;
     }
     if (first == argc) {
-        return run_file(stdin, stdout);
+        return run_streams();
     }
     for (int i = first + 1; i < argc; i++) {
         int status = run_named(argv[first], argv[i]);

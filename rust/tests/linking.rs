@@ -98,6 +98,21 @@ fn what_is_installed_comes_last() {
     );
 }
 
+// So pkg-config prints a folder with a space in its name.
+#[test]
+fn a_folder_with_a_space_in_its_name_is_one_flag() {
+    let lines = build::instructions(None, &[folder("built_8", false)], || {
+        Some("-L/opt/in\\ stalled/lib -lyarrowdoor \n".to_owned())
+    });
+    assert_eq!(
+        told(&lines),
+        [
+            "rustc-link-search=native=/opt/in stalled/lib",
+            "rustc-link-lib=yarrowdoor"
+        ]
+    );
+}
+
 #[test]
 fn no_other_library_is_linked_than_the_one_that_is_named() {
     let (named, built) = (folder("named_4", false), folder("built_4", true));
