@@ -81,23 +81,25 @@ class Examples(unittest.TestCase):
         said, _ = program.communicate(timeout=60)
         self.assertRegex(said.splitlines()[-1], r"^alice got hello from 127\.0\.0\.1:\d+$")
 
-    @unittest.skipUnless(LIVE.exists(), "turn_live is not built")
-    def test_lines(self) -> None:
-        program = start(str(EXAMPLES / "lines.py"), f"127.0.0.1:{self.server.port}", "user", "pass", f"127.0.0.1:{self.port}", "hello")
+    def lines(self, peer: str) -> "subprocess.CompletedProcess[str]":
+        program = start(str(EXAMPLES / "lines.py"), f"127.0.0.1:{self.server.port}", "user", "pass", peer, "hello")
         self.addCleanup(end, program)
         said, _ = program.communicate(timeout=60)
-        allocated, *rest = said.splitlines()
+        return subprocess.CompletedProcess(program.args, program.returncode, said)
+
+    @unittest.skipUnless(LIVE.exists(), "turn_live is not built")
+    def test_lines(self) -> None:
+        done = self.lines(f"127.0.0.1:{self.port}")
+        allocated, *rest = done.stdout.splitlines()
         self.assertRegex(allocated, r"^allocated udp 127\.0\.0\.1:\d+$")
         self.assertEqual(rest, ["permitted udp 127.0.0.1", f"data from 127.0.0.1:{self.port} hello"])
-        self.assertEqual(program.returncode, 0)
+        self.assertEqual(done.returncode, 0)
 
     @unittest.skipUnless(LIVE.exists(), "turn_live is not built")
     def test_lines_that_are_wrong(self) -> None:
-        program = start(str(EXAMPLES / "lines.py"), f"127.0.0.1:{self.server.port}", "user", "pass", f"localhost:{self.port}", "hello")
-        self.addCleanup(end, program)
-        said, _ = program.communicate(timeout=60)
-        self.assertEqual(said.splitlines()[-1], "permit: bad argument")
-        self.assertEqual(program.returncode, 1)
+        done = self.lines(f"localhost:{self.port}")
+        self.assertEqual(done.stdout.splitlines()[-1], "permit: bad argument")
+        self.assertEqual(done.returncode, 1)
 
     def test_a_file(self) -> None:
         if not self.server.certificate:
