@@ -53,7 +53,7 @@ def points_of(times: Times, name: str, row: str, sizes: List[int]) -> List[Tuple
 def legend(names: List[str]) -> List[str]:
     lines = []
     for index, name in enumerate(names):
-        x, y = LEFT + 110 * index, TOP + HEIGHT + 48
+        x, y = LEFT + 110 * index, TOP + HEIGHT + 62
         lines.append(f'<rect x="{x}" y="{y - 9}" width="18" height="4" fill="{COLOURS[name]}"/>')
         lines.append(f'<text x="{x + 24}" y="{y - 3}">{name}</text>')
     return lines
@@ -63,7 +63,7 @@ def draw(times: Times, sizes: List[int], names: List[str], file: pathlib.Path) -
     shown = [name for name in names if PEERS[name].keeps_channels]
     values = [value for name in shown for row in PANELS for _, value in points_of(times, name, row, sizes)]
     least, most = math.floor(math.log10(min(values))), math.ceil(math.log10(max(values)))
-    width, height = LEFT + len(PANELS) * WIDTH + (len(PANELS) - 1) * GAP + 20, TOP + HEIGHT + 60
+    width, height = LEFT + len(PANELS) * WIDTH + (len(PANELS) - 1) * GAP + 20, TOP + HEIGHT + 74
     lines = [f'<svg xmlns="http://www.w3.org/2000/svg" viewBox="0 0 {width} {height}" font-family="sans-serif" font-size="12">',
              f'<rect width="{width}" height="{height}" fill="white"/>']
     for index, (row, title) in enumerate(PANELS.items()):

@@ -110,7 +110,7 @@ test("who waits for room in the socket and finds it full again waits again", asy
         handed.mock.restore();
     });
     const server = await udp(), link = await DatagramLink.connect("127.0.0.1", server.port, undefined);
-    const sent = await Promise.all(Array.from({ length: 1_000 }, () => link.hasRoom().then(() => link.sendData(Buffer.alloc(20)))));
+    const sent = await Promise.all(Array.from({ length: 1_000 }, () => link.room.wait().then(() => link.room.trySend(Buffer.alloc(20)))));
     assert.deepEqual(sent.filter((isSent) => !isSent), []);
     link.close();
     server.close();

@@ -1,6 +1,6 @@
 // A client whose channel 4000 to 10.0.0.3:9000 is bound, by the lines of a handshake.
+import { answerTo } from "../lines/answers.js";
 import { Client } from "../src/index.js";
-import { answerTo } from "./replay.js";
 import { parseTrace } from "./trace.js";
 
 const [LOCAL, SERVER] = ["192.168.0.1:1000", "10.0.0.2:2000"];

@@ -3,10 +3,10 @@ import assert from "node:assert/strict";
 import { readFile, readdir } from "node:fs/promises";
 import path from "node:path";
 import test from "node:test";
+import { answerTo } from "../lines/answers.js";
 import { Client, OutOfMemory } from "../src/index.js";
 import { HANDSHAKE } from "./handshake.js";
 import { testLibrary } from "./module.js";
-import { answerTo } from "./replay.js";
 import { parseTrace } from "./trace.js";
 
 const FOLDER = process.env.YARROWDOOR_TRACES, MOST_TRACES = 40, MOST_LINES = 80;
@@ -23,10 +23,7 @@ function run(library, exports, { head, calls }, which) {
         client = new Client(head, library);
     }
     for (const call of calls) {
-        try {
-            answerTo(client, call);
-        } catch (error) {
-            assert.ok(error instanceof OutOfMemory, error);
+        if (answerTo(client, call) === "no memory") {
             told++;
             client.poll(call.now); // it is valid
         }

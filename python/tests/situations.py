@@ -164,7 +164,7 @@ ALL: Dict[str, Situation] = {
                                rules={"": ("output filter 0 udp dport 3478 drop",)}),
     "rejected here by ICMP": Situation("udp", ("A firewall of this host itself",), "untried", 2, rules={
         "": ("output filter 0 meta l4proto {{ tcp, udp }} th dport 3478 reject",)}),
-    "ALLOCATE dropped": Situation("challenge", ("lets STUN alone through",),
+    "ALLOCATE dropped": Situation("challenge", ("lets only STUN through",),
                                   rules=forward("iifname c1 udp dport 3478 @th,64,16 0x0003 drop")),
     "indications dropped": Situation("indications", ("Channels pass, and messages do not",),
                                      rules=forward("iifname c1 udp dport 3478 @th,64,16 0x0016 drop")),

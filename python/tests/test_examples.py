@@ -14,6 +14,8 @@ from . import coturn as server
 
 ROOT = pathlib.Path(__file__).resolve().parent.parent.parent
 EXAMPLES = ROOT / "examples"
+# The client that is used by lines, where the gate has left it or TURN_LIVE names it.
+LIVE = pathlib.Path(os.environ.get("TURN_LIVE") or ROOT / "crates" / "turn_live" / "out" / "turn_live")
 
 
 def start(*words: str) -> "subprocess.Popen[str]":
@@ -78,6 +80,26 @@ class Examples(unittest.TestCase):
         program = start(str(EXAMPLES / "two_relays.py"), self.server.uri(), "user", "pass", "hello")
         said, _ = program.communicate(timeout=60)
         self.assertRegex(said.splitlines()[-1], r"^alice got hello from 127\.0\.0\.1:\d+$")
+
+    def lines(self, peer: str) -> "subprocess.CompletedProcess[str]":
+        program = start(str(EXAMPLES / "lines.py"), f"127.0.0.1:{self.server.port}", "user", "pass", peer, "hello")
+        self.addCleanup(end, program)
+        said, _ = program.communicate(timeout=60)
+        return subprocess.CompletedProcess(program.args, program.returncode, said)
+
+    @unittest.skipUnless(LIVE.exists(), "turn_live is not built")
+    def test_lines(self) -> None:
+        done = self.lines(f"127.0.0.1:{self.port}")
+        allocated, *rest = done.stdout.splitlines()
+        self.assertRegex(allocated, r"^allocated udp 127\.0\.0\.1:\d+$")
+        self.assertEqual(rest, ["permitted udp 127.0.0.1", f"data from 127.0.0.1:{self.port} hello"])
+        self.assertEqual(done.returncode, 0)
+
+    @unittest.skipUnless(LIVE.exists(), "turn_live is not built")
+    def test_lines_that_are_wrong(self) -> None:
+        done = self.lines(f"localhost:{self.port}")
+        self.assertEqual(done.stdout.splitlines()[-1], "permit: bad argument")
+        self.assertEqual(done.returncode, 1)
 
     def test_a_file(self) -> None:
         if not self.server.certificate:

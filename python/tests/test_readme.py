@@ -1,9 +1,12 @@
 """The samples of README.md that are parts of a program, each as it stands there, through coturn."""
 import asyncio
 import io
+import os
 import pathlib
 import re
 import socket
+import subprocess
+import sys
 import textwrap
 import threading
 import unittest
@@ -14,6 +17,7 @@ from . import coturn as server
 from .test_sync import Peer
 
 README = pathlib.Path(__file__).resolve().parent.parent / "README.md"
+PROJECT = README.parent.parent / "README.md"
 # Each sample by the first words of it, with what it prints.
 SAMPLES = {
     "async with Relay(": r"peers reach me at 127\.0\.0\.1:\d+\n",
@@ -54,6 +58,20 @@ class Samples(unittest.TestCase):
                 (found,) = [it for it in samples() if it.startswith(begins)]
                 self.assertLessEqual(len([it for it in found.splitlines() if it]), 5)
                 self.assertRegex(self.run_sample(found, at, peer.where, port), f"^{prints}$")
+
+    @unittest.skipUnless(PROJECT.exists(), "the sources are not here")
+    def test_the_ten_lines_of_the_project(self) -> None:
+        (program,) = re.findall(r"^```python\n(.*?)^```$", PROJECT.read_text(encoding="utf-8"), re.M | re.S)
+        peer = Peer()
+        self.addCleanup(peer.close)
+        with server.coturn() as at:
+            text = program.replace("127.0.0.1:3478", f"127.0.0.1:{at.port}").replace("3480", str(peer.where[1]))
+            env = {**os.environ, "PYTHONPATH": str(README.parent)}
+            ran = subprocess.run([sys.executable, "-c", text], env=env, stdout=subprocess.PIPE, text=True, timeout=60)
+        self.assertEqual(ran.returncode, 0)
+        address, received = ran.stdout.splitlines()
+        self.assertRegex(address, r"^peers reach me at 127\.0\.0\.1:\d+$")
+        self.assertRegex(received, rf"^\(b'hello', .*127\.0\.0\.1.*{peer.where[1]}.*\)$")
 
     def answer(self, stream: socket.socket) -> None:
         with stream, stream.accept()[0] as own:

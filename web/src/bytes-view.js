@@ -1,6 +1,6 @@
 // The bytes of a packet as a grid, in which one is chosen, and what changes that byte: its digits or one of its bits.
+import { toHex } from "../yarrowdoor/lines/hex.js";
 import { make } from "./dom.js";
-import { toHex } from "./hex.js";
 
 /** So many bytes of a packet are shown. */
 const MOST = 2_048;

@@ -1,5 +1,5 @@
 // The calls of a caller to whom nothing comes: it polls at each wake-up time, and takes the events and packets that wait.
-import { lineOf, packetLine } from "./answers.js";
+import { lineOf, packetLine } from "../yarrowdoor/lines/answers.js";
 import { clientAfter } from "./replay.js";
 
 /** The most lines that are made. */

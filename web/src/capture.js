@@ -1,6 +1,6 @@
 // The packets of a run as a capture that Wireshark opens, byte by byte what tools/draw/lines-to-pcap writes: the format of libpcap with
 // raw IP packets (LINKTYPE_RAW). No packet in it was seen on a network; the headers are made of the addresses.
-import { joined } from "./hex.js";
+import { joined } from "../yarrowdoor/lines/hex.js";
 
 const UDP = 17, TCP = 6, TTL = 64, MAX_PIECE = 65_000, SYN = 2, PUSH = 8, ACK = 16;
 const bytes16 = (...numbers) => numbers.flatMap((number) => [(number >> 8) & 255, number & 255]);

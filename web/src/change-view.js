@@ -1,6 +1,6 @@
 // What can be done to the run at the step that is chosen.
+import { CALLS } from "../yarrowdoor/lines/lines.js";
 import { make } from "./dom.js";
-import { CALLS } from "./lines.js";
 
 /** The arguments of a new call, as one would type them. */
 const TEMPLATES = Object.freeze({

@@ -1,8 +1,8 @@
 // Edits that take more than the step at which they are made: a signature, and silence.
+import { toHex } from "../yarrowdoor/lines/hex.js";
 import { linesOfSilence } from "./caller.js";
 import { attributeOf } from "./decode.js";
 import { BadEdit } from "./edits.js";
-import { toHex } from "./hex.js";
 import { SIGNERS, canSign, keyOf, signed } from "./integrity.js";
 import { requestsBefore, signerOf } from "./requests.js";
 import { linesUpTo } from "./story.js";

@@ -1,7 +1,7 @@
 // What the page can check of a packet that was passed in: rules of docs/rattle/MACHINE.md and docs/rattle/PROTOCOL.md, each met or not, by which
 // it says why a packet may have been ignored. The client decides by more than these: they are hints.
+import { toHex } from "../yarrowdoor/lines/hex.js";
 import { attributeOf } from "./decode.js";
-import { toHex } from "./hex.js";
 import { SIGNERS, canSign, integrityOf, keyOf } from "./integrity.js";
 import { ATTRIBUTE, CLASS, METHOD } from "./names.js";
 import { codeOf } from "./notes.js";

@@ -1,5 +1,5 @@
 // What the bytes of a packet say, field by field, with the place of each. It verifies nothing.
-import { joined, toHex } from "./hex.js";
+import { joined, toHex } from "../yarrowdoor/lines/hex.js";
 import { ATTRIBUTE, CLASS, attributeName, typeName } from "./names.js";
 import { dataNote, errorNote } from "./notes.js";
 import { readValue } from "./values.js";

@@ -9,8 +9,8 @@
 //
 // STEP counts all steps from 0 on, also those that were dropped, and is the number of steps for the place behind them. A link is
 // written by anybody: an edit that is none, or does not fit the run, is a BadEdit, and never changes a run halfway.
-import { fromField, fromHex, toField } from "./hex.js";
-import { BadLine, parseCall, parseHead } from "./lines.js";
+import { fromField, fromHex, toField } from "../yarrowdoor/lines/hex.js";
+import { BadLine, parseCall, parseHead } from "../yarrowdoor/lines/lines.js";
 
 /**
  * A step of a run: its line, the number of the step of the original run that it was, if it was one, and whether it is left out.

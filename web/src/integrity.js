@@ -1,5 +1,5 @@
 // Whether a message is signed with the key of a run, and how it is signed (RFC 8489, sections 9.2.2, 14.5, 14.6 and 18.5.1).
-import { joined } from "./hex.js";
+import { joined } from "../yarrowdoor/lines/hex.js";
 import { md5 } from "./md5.js";
 
 /** What signs: the attribute's type, name and section, the engine's name of the hash, and the bytes of the value. */

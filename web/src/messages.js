@@ -1,5 +1,5 @@
 // STUN messages that the page makes itself: those of somebody else on the network, and those of the server in the page.
-import { joined } from "./hex.js";
+import { joined } from "../yarrowdoor/lines/hex.js";
 
 /**
  * An attribute with its padding (RFC 8489, section 14).

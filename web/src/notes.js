@@ -1,6 +1,6 @@
 // What a reader wants to know of a message beside its name: the code of an error and what it asks of the client, and data that is text.
+import { toHex } from "../yarrowdoor/lines/hex.js";
 import { errorName } from "./names.js";
-import { toHex } from "./hex.js";
 
 /** The most characters of data that are shown. */
 const LONGEST = 32;

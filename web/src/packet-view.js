@@ -1,10 +1,10 @@
 // The step that is chosen: its packet field by field and byte by byte, and why it may have been ignored.
+import { toHex } from "../yarrowdoor/lines/hex.js";
 import { BytesView } from "./bytes-view.js";
 import { withValue } from "./decode.js";
 import { make } from "./dom.js";
-import { toHex } from "./hex.js";
-import { answerText, lineText, readable, signsOf } from "./words.js";
 import { typedValue, writeValue } from "./values.js";
+import { answerText, lineText, readable, signsOf } from "./words.js";
 
 /** Where a section of an RFC is to be read. */
 function sectionLink(section) {

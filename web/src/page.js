@@ -1,14 +1,14 @@
 // The page: the run that is shown, its edits, and the step that is chosen. Each change of one of them goes through here, and into
 // the fragment of the address.
-import { ChangeView } from "./change-view.js";
+import { BadLine } from "../yarrowdoor/lines/lines.js";
 import { captureOf } from "./capture.js";
+import { ChangeView } from "./change-view.js";
 import { signingEdit, silenceEdits } from "./changes.js";
 import { checksOf } from "./checks.js";
 import { WIDE, byId, keepFocus, make } from "./dom.js";
 import { BadEdit } from "./edits.js";
 import { History } from "./history.js";
 import { Ladder } from "./ladder.js";
-import { BadLine } from "./lines.js";
 import { placeOf, remember } from "./link.js";
 import { LIVE } from "./live.js";
 import { PacketView } from "./packet-view.js";

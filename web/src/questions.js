@@ -1,14 +1,14 @@
 // Starting points: questions to a client, each as a run, edits of it and the step to look at.
+import { toHex } from "../yarrowdoor/lines/hex.js";
 import { linesOfSilence } from "./caller.js";
-import { toHex } from "./hex.js";
+import { withBytes } from "./edits.js";
 import { keyOf, signed } from "./integrity.js";
+import { LIVE } from "./live.js";
 import { attribute, message, textBytes } from "./messages.js";
 import { ATTRIBUTE, CLASS, METHOD } from "./names.js";
 import { signerOf, requestsBefore } from "./requests.js";
-import { LIVE } from "./live.js";
 import { linesUpTo } from "./story.js";
 import { writeValue } from "./values.js";
-import { withBytes } from "./edits.js";
 
 /**
  * `ask` gives the edits, and the step that shows the answer; `why` is said of the answer.

@@ -1,7 +1,7 @@
 // Clients of the module that have made the calls of a run, or its first ones.
+import { answerTo } from "../yarrowdoor/lines/answers.js";
+import { parseCall, parseHead } from "../yarrowdoor/lines/lines.js";
 import { Client } from "../yarrowdoor/src/client.js";
-import { answerTo } from "./answers.js";
-import { parseCall, parseHead } from "./lines.js";
 
 /**
  * A client after these lines, and what it answered to each. Close it. BadLine.

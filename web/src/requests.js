@@ -1,6 +1,6 @@
 // The requests of a run and their responses, read off the packets: which transaction IDs are outstanding, and until when.
+import { toHex } from "../yarrowdoor/lines/hex.js";
 import { attributeOf } from "./decode.js";
-import { toHex } from "./hex.js";
 import { ATTRIBUTE, CLASS } from "./names.js";
 
 /**

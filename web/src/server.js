@@ -1,7 +1,7 @@
 // A small TURN server over UDP, for one client: challenges, an allocation, permissions and channels (RFC 8656). What the page's server
 // reacts to is a packet; it has no clock, so nothing of it ends.
+import { toHex } from "../yarrowdoor/lines/hex.js";
 import { attributeOf, decode } from "./decode.js";
-import { toHex } from "./hex.js";
 import { integrityOf, keyOf, signed } from "./integrity.js";
 import { attribute, message, textBytes, typeOf } from "./messages.js";
 import { ATTRIBUTE, CLASS, METHOD } from "./names.js";

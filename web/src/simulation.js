@@ -1,11 +1,11 @@
 // A run that is not recorded: a client of the module, a caller, the page's server, and a network that loses the packets that it is
 // told to lose. Each packet has a number, in the order in which they are sent. What is lost leaves all before it as it was.
+import { answerTo } from "../yarrowdoor/lines/answers.js";
+import { fromField, toField, toHex } from "../yarrowdoor/lines/hex.js";
+import { parseCall, parseHead } from "../yarrowdoor/lines/lines.js";
 import { Client } from "../yarrowdoor/src/client.js";
-import { answerTo } from "./answers.js";
 import { BadEdit } from "./edits.js";
-import { fromField, toField, toHex } from "./hex.js";
 import { canSign } from "./integrity.js";
-import { parseCall, parseHead } from "./lines.js";
 import { textBytes } from "./messages.js";
 import { Server } from "./server.js";
 

@@ -1,9 +1,9 @@
 // What a client has after a step. It is asked of a client of the timeline, which has made the same calls, and is as before after each
 // use: so asking changes nothing of the run. It lists what is granted, is refused what is pending, and is taken ahead in time to see
 // when a grant ends.
+import { addressText, hostText, lineOf, packetLine } from "../yarrowdoor/lines/answers.js";
+import { parseCall, parseHead } from "../yarrowdoor/lines/lines.js";
 import { Refused } from "../yarrowdoor/src/errors.js";
-import { addressText, hostText, lineOf, packetLine } from "./answers.js";
-import { parseCall, parseHead } from "./lines.js";
 
 /** How often a client is polled at one time, and how many grants are listed. */
 const MOST_POLLS = 5_000, MOST_LISTED = 24, SECOND = 1_000_000_000n, MAX_TIME = 2n ** 62n;

@@ -1,11 +1,11 @@
 // A run with its edits as the page shows it: each step with the answer that the module gives to it, and what differs from the
 // original run.
+import { fromField } from "../yarrowdoor/lines/hex.js";
+import { parseHead } from "../yarrowdoor/lines/lines.js";
 import { bytesOfLine, edited, timeOf } from "./edits.js";
-import { parseHead } from "./lines.js";
 import { answersTo } from "./replay.js";
 import { HEAD, simulated } from "./simulation.js";
 import { Streams } from "./streams.js";
-import { fromField } from "./hex.js";
 
 /**
  * A packet of a step: the bytes that go over the network, and where.

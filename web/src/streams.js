@@ -1,7 +1,7 @@
 // What the pieces of streams are: frames, parts of frames, or data of a peer on a data connection that is bound (RFC 8656, section
 // 12.5; RFC 6062, section 4.3). It is read off the packets alone.
+import { joined } from "../yarrowdoor/lines/hex.js";
 import { decode } from "./decode.js";
-import { joined } from "./hex.js";
 import { CLASS, METHOD } from "./names.js";
 
 /** What is known of one direction of one connection. */

@@ -1,9 +1,9 @@
 // A client of the module at any place of a run, again and again. All that a client is stands in the memory of the module: so that
 // memory is kept at intervals, and a client comes to a place from what was kept before it, and not from the run's beginning.
+import { answerTo } from "../yarrowdoor/lines/answers.js";
+import { parseCall, parseHead } from "../yarrowdoor/lines/lines.js";
 import { Client } from "../yarrowdoor/src/client.js";
 import { Refused } from "../yarrowdoor/src/errors.js";
-import { answerTo } from "./answers.js";
-import { parseCall, parseHead } from "./lines.js";
 
 /** The calls between two places at which the memory is kept; and the memories that are kept, which the calls between grow for. */
 const INTERVAL = 16, MOST_KEPT = 48;

@@ -1,7 +1,7 @@
 // What the values of attributes say, and how they are written (docs/rattle/PROTOCOL.md).
+import { addressText } from "../yarrowdoor/lines/answers.js";
+import { fromHex, toHex } from "../yarrowdoor/lines/hex.js";
 import { parseIp } from "../yarrowdoor/src/address.js";
-import { addressText } from "./answers.js";
-import { fromHex, toHex } from "./hex.js";
 import { errorName } from "./names.js";
 import { readable } from "./words.js";
 

@@ -1,6 +1,6 @@
 // A step in words, for the ladder and for screen readers.
+import { fromField } from "../yarrowdoor/lines/hex.js";
 import { seconds } from "./dom.js";
-import { fromField } from "./hex.js";
 import { dataNote } from "./notes.js";
 
 /** What frames a packet has, each with its note: `Allocate success`, `2 frames: ..`. */

@@ -52,7 +52,7 @@ export class DatagramLink {
     isOver = false;
     #socket;
     #pending = 0;
-    #room = new Room(this);
+    room = new Room(this);
 
     /**
      * Connects a socket to the server: a new one, or that of the user.
@@ -109,7 +109,7 @@ export class DatagramLink {
     #closed() {
         const wasOver = this.isOver;
         this.isOver = true;
-        this.#room.freed();
+        this.room.freed();
         if (!wasOver) {
             this.user.ended(undefined);
         }
@@ -123,7 +123,7 @@ export class DatagramLink {
             this.#refused(error);
         }
         if (wasFull && !this.isOver) {
-            this.#room.freed();
+            this.room.freed();
             this.user.drained();
         }
     };
@@ -139,23 +139,6 @@ export class DatagramLink {
         }
     }
 
-    /**
-     * Sends data, or drops it if the socket is full, and says whether it was handed over.
-     * @param {Uint8Array} data
-     */
-    sendData(data) {
-        if (this.isOver || this.isFull) {
-            return false;
-        }
-        this.send(data);
-        return true;
-    }
-
-    /** Waits until there is room, or the link has ended. */
-    hasRoom() {
-        return this.#room.wait();
-    }
-
     /** @param {boolean} isKept */
     setKept(isKept) {
         isKept ? this.#socket.ref() : this.#socket.unref();
@@ -164,7 +147,7 @@ export class DatagramLink {
     close() {
         if (!this.isOver) {
             this.isOver = true;
-            this.#room.freed();
+            this.room.freed();
             this.#socket.close();
         }
     }
@@ -178,7 +161,7 @@ export class StreamLink {
     #socket;
     /** @type {Error | undefined} */
     #error;
-    #room = new Room(this);
+    room = new Room(this);
 
     /**
      * @param {string} host
@@ -231,14 +214,14 @@ export class StreamLink {
     }
 
     #drained() {
-        this.#room.freed();
+        this.room.freed();
         this.user.drained();
     }
 
     #closed() {
         const wasOver = this.isOver;
         this.isOver = true;
-        this.#room.freed();
+        this.room.freed();
         if (!wasOver) {
             this.user.ended(this.#error);
         }
@@ -254,23 +237,6 @@ export class StreamLink {
         }
     }
 
-    /**
-     * Sends data, or drops it if the socket is full, and says whether it was handed over.
-     * @param {Uint8Array} data
-     */
-    sendData(data) {
-        if (this.isOver || this.isFull) {
-            return false;
-        }
-        this.#socket.write(data);
-        return true;
-    }
-
-    /** Waits until there is room, or the link has ended. */
-    hasRoom() {
-        return this.#room.wait();
-    }
-
     /** @param {boolean} isKept */
     setKept(isKept) {
         isKept ? this.#socket.ref() : this.#socket.unref();
@@ -280,7 +246,7 @@ export class StreamLink {
     close() {
         if (!this.isOver) {
             this.isOver = true;
-            this.#room.freed();
+            this.room.freed();
             this.#socket.end();
             setTimeout(() => this.#socket.destroy(), 1_000).unref();
         }

@@ -297,7 +297,7 @@ export class Relay extends Sending {
      */
     async #sendInRoom(bytes, peer, session, signal) {
         do {
-            await abortable(session.link.hasRoom(), signal);
+            await abortable(session.link.room.wait(), signal);
         } while (!this.#sendNow(bytes, peer));
     }
 

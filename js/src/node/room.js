@@ -1,4 +1,4 @@
-// Who waits for room in a socket.
+// The room in a socket for data, and who waits for it.
 import { Deferred } from "./deferred.js";
 
 /**
@@ -15,9 +15,21 @@ export class Room {
     #last = Promise.resolve();
     #link;
 
-    /** @param {{ readonly isFull: boolean, readonly isOver: boolean }} link */
+    /** @param {{ readonly isFull: boolean, readonly isOver: boolean, send(data: Uint8Array): void }} link */
     constructor(link) {
         this.#link = link;
+    }
+
+    /**
+     * Sends data, or drops it if the socket is full or the link has ended, and says whether it was handed over.
+     * @param {Uint8Array} data
+     */
+    trySend(data) {
+        if (this.#link.isOver || this.#link.isFull) {
+            return false;
+        }
+        this.#link.send(data);
+        return true;
     }
 
     /** There is room, or the link has ended. */

@@ -254,7 +254,7 @@ export class Session {
         if (packet.length > MAX_MESSAGE) {
             throw new RangeError(`the message to ${peer.address} has ${packet.length} bytes with its header, and at most ${MAX_MESSAGE} fit`);
         }
-        return this.link.sendData(Buffer.from(packet.data)); // the socket may send it later
+        return this.link.room.trySend(Buffer.from(packet.data)); // the socket may send it later
     }
 
     /**

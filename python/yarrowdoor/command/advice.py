@@ -109,8 +109,8 @@ def about_address(relayed: str, server: str) -> str:
         return (f"The relayed address {relayed} is a loopback one, which peers on other hosts cannot reach: let the server relay "
                 "at an address of the network (coturn: relay-ip=, and external-ip= behind a NAT).")
     kind = "link-local" if ip.is_link_local else "private"
-    return (f"The relayed address {relayed} is a {kind} one, which peers elsewhere cannot reach. Where the server is behind a NAT, "
-            f"let it tell the public address (coturn: external-ip=PUBLIC/{relayed}).")
+    return (f"The relayed address {relayed} is a {kind} one, which peers elsewhere cannot reach. If the server is behind a NAT, "
+            f"let it give out the public address (coturn: external-ip=PUBLIC/{relayed}).")
 
 
 def about_mapped(mapped: str, local: str, server: str, is_stream: bool) -> str:
@@ -142,8 +142,8 @@ def about_family(family: int, said: Optional[Said]) -> str:
     if said is not None and said.code in QUOTAS:
         return f"It was not tried whether the server has IPv{family} relayed addresses, since its limit is met."
     told = _told(said) if said is None or said.code else "(it granted one of the other family)"
-    return (f"The server gives no IPv{family} relayed address {told}: peers that have IPv{family} alone are not reached. It needs "
-            "one of its own (coturn: another relay-ip=, and listening-ip=).")
+    return (f"The server gives no IPv{family} relayed address {told}: peers that have only IPv{family} are not reached. To relay "
+            f"to them it needs an IPv{family} address (coturn: another relay-ip=, and listening-ip=).")
 
 
 def about_peer(ip: str, said: Optional[Said]) -> str:
@@ -158,9 +158,9 @@ def about_peer(ip: str, said: Optional[Said]) -> str:
         return f"The server takes no permission for {ip} {told}, for another reason than that it forbids this peer: see its log."
     where = ipaddress.ip_address(ip)
     if where.is_loopback:
-        return (f"The server refuses {ip} as a peer {told}: it forbids loopback addresses, as it should where others use it. So "
-                "two relayed addresses of it cannot be joined while they are loopback ones: let it relay at an address of the "
-                "network (coturn: relay-ip=), or on a host for tests alone, set allow-loopback-peers.")
+        return (f"The server refuses {ip} as a peer {told}: it forbids loopback addresses, as it should if others use it. So "
+                "two of its relayed addresses cannot reach each other while they are loopback ones: let it relay at an address of "
+                "the network (coturn: relay-ip=), or on a host that is only for tests set allow-loopback-peers.")
     if not where.is_global:
         return (f"The server refuses {ip} as a peer {told}: it forbids private ranges, and its own relayed address is in one. "
                 f"Permit that one (coturn: allowed-peer-ip={ip}), or let it relay at a public address (external-ip=).")

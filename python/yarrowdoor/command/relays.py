@@ -49,11 +49,11 @@ def challenge_step(exchange: Exchange, seconds: float, others: Sequence[Exchange
         return Step("challenge", Outcome.FAILED, f"refused: {said}", spent, refusal, facts_of(said))
     if request is not None and request.answers:
         return Step("challenge", Outcome.FAILED, "an address is granted to anyone", spent,
-                    "The server asks for no credentials, so that anyone may send through it, and this client takes nothing that "
-                    "nobody has signed. Let it ask (coturn: lt-cred-mech, and not no-auth).")
+                    "The server asks for no credentials, so anyone may send through it, and this client accepts no unsigned "
+                    "answer. Let it ask for them (coturn: lt-cred-mech, and not no-auth).")
     return Step("challenge", Outcome.FAILED, "no answer to ALLOCATE", spent,
                 "The server answers STUN, and not TURN: it tells clients their address, and relays nothing (coturn: remove "
-                "stun-only). Or a firewall on the way lets STUN alone through.")
+                "stun-only). Or a firewall on the way lets only STUN through.")
 
 
 def is_settled(exchange: Exchange) -> bool:

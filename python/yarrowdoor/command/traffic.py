@@ -251,12 +251,10 @@ def _trickles(trip: Trip, wait: float) -> bool:
 
 
 def _nothing(trip: Trip) -> str:
-    return (f"The server has granted all, and no packet comes back from {trip.peer}. Between two relayed addresses of this server "
-            "nothing passes; of peers elsewhere see the step `outside`. Causes: a firewall at the server drops what goes to its "
-            "relay "
-            "ports (open them, in coturn 49152-65535 over UDP, also to itself), that address is not its own (external-ip=), or a "
-            "NAT "
-            "before it does not turn packets round (hairpin).")
+    return (f"The server has granted all, and no packet comes back from {trip.peer}. Nothing passes between two relayed addresses "
+            "of this server; for peers elsewhere see the step `outside`. Causes: a firewall at the server drops what goes to its "
+            "relay ports (open them, in coturn 49152-65535 over UDP, also to itself), that address is not its own (external-ip=), "
+            "or a NAT in front of it does not loop packets back (hairpinning).")
 
 
 def first_sizes(most: int) -> List[int]:

@@ -1,4 +1,4 @@
-// The lines of a run (docs/rattle/LINES.md, "Traces"): its head and its calls, as what a client takes, or what is wrong with a line.
+// The lines of a trace (docs/rattle/LINES.md, "Traces"): its head and its calls, as what a client takes, or what is wrong with a line.
 import { fromField, fromHex } from "./hex.js";
 
 const MAX_TIME = 2n ** 62n, MAX_U64 = 2n ** 64n - 1n, MAX_U32 = 2n ** 32n - 1n, MAX_PAYLOAD = 65_504;

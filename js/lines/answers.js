@@ -1,6 +1,6 @@
-// The calls of a run on a client, and the line that answers each (docs/rattle/LINES.md, "Traces").
-import { parseIp } from "../yarrowdoor/src/address.js";
-import { OutOfMemory, Refused } from "../yarrowdoor/src/errors.js";
+// The calls of a trace on a client, and the line that answers each (docs/rattle/LINES.md, "Traces"). For the tests and the page of web/.
+import { parseIp } from "../src/address.js";
+import { OutOfMemory, Refused } from "../src/errors.js";
 import { toField, toHex } from "./hex.js";
 
 /**
@@ -49,7 +49,7 @@ export function lineOf(answer) {
 
 /**
  * The line of a packet, or of none.
- * @param {import("../yarrowdoor/src/answers.js").Packet | undefined} packet
+ * @param {import("../src/answers.js").Packet | undefined} packet
  */
 export function packetLine(packet) {
     return packet === undefined ? "none"
@@ -68,7 +68,7 @@ function setKept(client, about, isKept, transport) {
 }
 
 /** What makes each call, and gives the line that answers it. */
-const MAKERS = {
+export const MAKERS = Object.freeze({
     poll: (client, { now }) => lineOf(client.poll(now)),
     transmit: (client, { now }) => packetLine(client.pollTransmit(now)),
     event: (client) => lineOf(client.pollEvent()),
@@ -87,16 +87,16 @@ const MAKERS = {
     closed: (client, { now, local, remote }) => done(() => client.tcpClosed(local, remote, now)),
     relayed: (client) => listLine(client.relayedAddresses().map(({ transport, address }) => `${transport} ${addressText(address)}`)),
     permissions: (client, { relayed, transport }) => listLine(client.permissions(relayed, { transport }).map(hostText)),
-};
+});
 
 /**
  * Makes a call, and gives the line that answers it. LibraryError, where the module has stopped.
- * @param {import("../yarrowdoor/src/client.js").Client} client
+ * @param {import("../src/client.js").Client} client
  * @param {{ name: string }} call
  */
-export function answerTo(client, call) {
+export function answerTo(client, call, makers = MAKERS) {
     try {
-        return MAKERS[call.name](client, call);
+        return makers[call.name](client, call);
     } catch (error) {
         if (error instanceof OutOfMemory) {
             return "no memory";
