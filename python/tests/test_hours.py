@@ -219,10 +219,10 @@ class LettingGo(unittest.TestCase):
         endpoint.close()
 
     def test_what_is_asked_for_again(self) -> None:
+        """A request of what was released keeps it again, at once, whether it is granted or has just ended."""
         run(self.asked_again())
 
     async def asked_again(self) -> None:
-        """A request of what was released keeps it again, at once, whether it is granted or has just ended."""
         for seconds in (200.0, 299.99, 305.0):
             endpoint: Any = await serve(Server())
             async with TurnClient(endpoint.uri, "user", "pass", clock=LoopClock()) as relay:

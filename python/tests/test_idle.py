@@ -174,10 +174,10 @@ class Idle(unittest.TestCase):
         endpoint.close()
 
     def test_one_that_is_asked_for_again(self) -> None:
+        """It is kept as long as a new one."""
         run(self.asked_again())
 
     async def asked_again(self) -> None:
-        """It is kept as long as a new one."""
         endpoint: Any = await Watched.start(Server())
         async with TurnClient(endpoint.uri, "user", "pass", clock=LoopClock(), idle=60) as relay:
             loop = asyncio.get_running_loop()

@@ -1,23 +1,26 @@
 """Signals and forks in a program that uses a client without asyncio: nothing hangs, and all is given back."""
+import asyncio
 import json
 import os
-import queue
+import signal
 import threading
 import time
 import unittest
-from typing import Any, Callable, Dict, List, Optional
+from typing import Any, Callable, Dict, List
 from unittest import mock
 
-from yarrowdoor import Ended, Refused, handle, loop_thread, session, sync, threads
+from yarrowdoor import Address, Ended, Refused, handle, loop_thread, mailbox, session, sync, threads
 
 from .server import Server
-from .steps import interrupt, interrupted
+from .steps import Interrupted, interrupt, interrupted
 from .threaded import Threaded
 
 PEER = ("10.1.0.1", 9)
 # How long a call, and closing after it, may take, in seconds. What hangs takes longer.
 LIMIT = 10.0
-FILES = [str(it.__file__) for it in (handle, loop_thread, sync, threads)]
+# How long is waited that a signal interrupts, in seconds.
+WAIT = 0.2
+FILES = [str(it.__file__) for it in (handle, loop_thread, mailbox, sync, threads)]
 # Only each so many-th step of a call is interrupted by a handler that closes, since each needs another client.
 STRIDE = 7
 CALLS: Dict[str, Callable[[sync.TurnClient], object]] = {
@@ -121,29 +124,77 @@ class Signals(unittest.TestCase):
 
     def test_an_end_that_is_not_passed_on(self) -> None:
         """Since the thread that learns of it is interrupted then: each other one looks again after a while."""
-        inbox, found = threads.ThreadInbox(1, None), []  # type: threads.ThreadInbox, List[object]
-        inbox._came = came = Forgetful()
-        with mock.patch.object(threads, "TURN", 0.05):
+        inbox, found, news = threads.ThreadInbox(1, None), [], TakenNews()  # type: threads.ThreadInbox, List[object], TakenNews
+        with mock.patch.object(mailbox, "TURN", 0.05), mock.patch.object(inbox._came, "_news", news):
             waiting = threading.Thread(target=lambda: found.append(inbox.take_in_thread(None)), daemon=True)
             waiting.start()
-            self.assertTrue(came.is_asked.wait(LIMIT))
+            self.assertTrue(news.is_awaited.wait(LIMIT))
             inbox.end()
             waiting.join(LIMIT)
         self.assertEqual(found, [None])
 
 
-class Forgetful(queue.SimpleQueue[Any]):
-    """A queue out of which another thread takes all."""
+class TakenNews:
+    """News that another thread always takes first."""
 
     def __init__(self) -> None:
-        self.is_asked = threading.Event()
+        self.is_awaited = threading.Event()
 
-    def get(self, block: bool = True, timeout: Optional[float] = None) -> Any:
-        self.is_asked.set()
-        return super().get(block, timeout)
+    def acquire(self, timeout: float) -> bool:
+        self.is_awaited.set()
+        time.sleep(timeout)
+        return False
 
-    def put(self, item: object, block: bool = True, timeout: Optional[float] = None) -> None:
-        pass
+    def locked(self) -> bool:
+        return False
+
+
+class LongHandlers(unittest.TestCase):
+    """The handler of a signal returns when the wait that it has interrupted should be over."""
+
+    def setUp(self) -> None:
+        self.has_run = False
+        self.addCleanup(signal.signal, signal.SIGALRM, signal.signal(signal.SIGALRM, self.handle))
+        self.addCleanup(signal.setitimer, signal.ITIMER_REAL, 0.0)
+
+    def handle(self, *_: object) -> None:
+        if self.has_run:
+            raise Interrupted  # It waits on.
+        self.has_run = True
+        time.sleep(2 * WAIT)
+
+    def test_who_waits_for_data(self) -> None:
+        inbox = threads.ThreadInbox(1, None)
+        signal.setitimer(signal.ITIMER_REAL, WAIT / 2, LIMIT)
+        with self.assertRaises(TimeoutError):
+            inbox.take_in_thread(WAIT)
+        self.assertTrue(self.has_run)
+
+    def test_who_waits_for_the_event_loop(self) -> None:
+        async def work() -> None:
+            self.over = asyncio.Event()
+            await self.over.wait()
+
+        thread = loop_thread.LoopThread()
+        thread.start(work)
+        self.addCleanup(lambda: thread.do(lambda: self.over.set()))
+        signal.setitimer(signal.ITIMER_REAL, WAIT / 2, LIMIT)
+        with self.assertRaises(loop_thread.NotAnswered):
+            thread.call(lambda: asyncio.sleep(3 * LIMIT), WAIT)
+        self.assertTrue(self.has_run)
+
+    def test_who_looks_again_and_again(self) -> None:
+        """Without a wait, each time that something was taken."""
+        inbox, peer = threads.ThreadInbox(1, None), Address(*PEER)
+        self.has_run = True
+        signal.setitimer(signal.ITIMER_REAL, 6 * LIMIT)
+        for _ in range(100_000):
+            inbox.put(b"x", peer)
+            self.assertIsNotNone(inbox.take_in_thread(0))
+            try:
+                self.assertIsNone(inbox.take_in_thread(0))
+            except TimeoutError:
+                pass
 
 
 class Forks(unittest.TestCase):

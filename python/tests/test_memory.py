@@ -12,12 +12,12 @@ from .server import Server
 
 class Want(unittest.TestCase):
     def test_a_timer(self) -> None:
+        """Want of memory in a call leaves what is due: it is asked for again after 100 ms, and the relay is renewed as before."""
         for name in ("poll", "poll_transmit", "poll_event"):
             with self.subTest(call=name):
                 run(self.refused(name))
 
     async def refused(self, name: str) -> None:
-        """One call fails in the timer; the relay is renewed as before."""
         told: List[Any] = []
         loop = asyncio.get_running_loop()
         loop.set_exception_handler(lambda _, context: told.append(context))
@@ -27,17 +27,17 @@ class Want(unittest.TestCase):
             await asyncio.sleep(40)
             client: Any = relay._session().client
             real: Callable[..., Any] = getattr(client, name)
-            failures: List[float] = []
+            calls: List[float] = []
 
             def fail_once(*arguments: int) -> Any:
-                if not failures:
-                    failures.append(loop.time())
+                calls.append(loop.time())
+                if len(calls) == 1:
                     raise MemoryError("a memory allocation of the client failed")
                 return real(*arguments)
 
             setattr(client, name, fail_once)
             await asyncio.sleep(3600)
-            self.assertEqual(len(failures), 1)
+            self.assertAlmostEqual(calls[1] - calls[0], 0.1, delta=0.05)
             self.assertFalse(relay.closed)
             (allocation,) = endpoint.server.allocations.values()
             self.assertGreater(allocation.permissions["10.1.0.1"], loop.time())

@@ -260,6 +260,7 @@ class Returns(RelayCase):
             self.assertEqual({ip for _, ip in endpoint.server.asked}, {PEER[0]})
 
     async def test_what_is_released_and_asked_for_again(self) -> None:
+        """It is kept again, also by the clients that follow."""
         endpoint = await self.serve(Restarting(), StreamEndpoint)
         relay, states = self.relay(endpoint)
         async with relay:

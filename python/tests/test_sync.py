@@ -243,16 +243,16 @@ class Sockets(unittest.TestCase):
             own.recv(100)  # else it is a reset
 
     def test_a_grant_that_comes_late_is_given_back(self) -> None:
-        """Each answer takes 0.3 s, so that the relayed address is granted when its client has given up."""
-        with Threaded(Server(), forger=lambda data: [b"none"], delay=0.3) as endpoint:
-            relay = sync.TurnClient(endpoint.uri, "user", "pass", timeout=0.45)
+        """Each answer takes 0.6 s, so that the relayed address is granted when its client has given up."""
+        with Threaded(Server(), forger=lambda data: [b"none"], delay=0.6) as endpoint:
+            relay = sync.TurnClient(endpoint.uri, "user", "pass", timeout=1.0)
             with self.assertRaisesRegex(AllocationFailed, "^no answer from "):
                 relay.open()
             with self.assertRaisesRegex(Ended, "^the client was closed$"):
                 relay.permit("192.0.2.7")
             start = time.monotonic()
             while not any(it[:2] == REFRESH for it in endpoint.received) or endpoint.server.allocations:
-                self.assertLess(time.monotonic() - start, 5)
+                self.assertLess(time.monotonic() - start, 20)
                 time.sleep(0.01)
 
     def test_a_closed_port(self) -> None:

@@ -8,7 +8,6 @@ from typing import Any, Callable, Deque, Optional, Tuple
 
 from .address import Address
 from .counters import Counters
-from .waiting import Waiting
 
 __all__ = ["Inbox", "Receiver"]
 
@@ -46,27 +45,36 @@ class Taker(asyncio.Future[None]):
             self.get_loop().call_soon(fn, self, context=context)
 
 
-class Inbox(Waiting):
-    """Data of peers that waits to be taken: at most `size` packets. With a receiver nothing waits."""
+class Inbox:
+    """Data of peers that waits to be taken: at most `size` packets. A further one is dropped, and counted. With a receiver nothing
+    waits. `ValueError` where `size` is under 1."""
 
     def __init__(self, size: int, receiver: Optional[Receiver]) -> None:
-        super().__init__(size)
+        if size < 1:
+            raise ValueError(f"queue is at least 1, and not {size}")
+        self.dropped = 0
         self.has_receiver = receiver is not None
+        self._size = size
+        self.packets: Deque[Tuple[bytes, Address]] = collections.deque()
         self._takers: Deque[Taker] = collections.deque()
         self._has_ended = False
-        self.put: Receiver = receiver if receiver is not None else self._keep
+        self.put: Receiver = self._keep
         """Takes data of a peer. It raises what the receiver does."""
-        self.put_last: Receiver = receiver if receiver is not None else self._keep_last
+        self.put_last: Receiver = self._keep_last
         """The same, for a caller that has nothing to do after it: a task that waits for data goes on meanwhile. A round of the
         event loop would take as long as all else that is done for a datagram."""
+        if receiver is not None:
+            self.put = self.put_last = receiver
 
-    def _keep(self, data: bytes, peer: Address) -> None:
-        if self.keep(data, peer):
-            self._wake_taker(at_once=False)
+    def _keep(self, data: bytes, peer: Address, at_once: bool = False) -> None:
+        if len(self.packets) >= self._size:
+            self.dropped += 1
+        else:
+            self.packets.append((data, peer))
+            self._wake_taker(at_once)
 
     def _keep_last(self, data: bytes, peer: Address) -> None:
-        if self.keep(data, peer):
-            self._wake_taker(at_once=True)
+        self._keep(data, peer, at_once=True)
 
     def counting(self, counters: Counters, is_last: bool) -> Receiver:
         """What takes data of a peer, and counts it: `put_last` or `put`. What a receiver raises goes to the event loop's handler:
@@ -83,6 +91,10 @@ class Inbox(Waiting):
                 asyncio.get_running_loop().call_exception_handler(context)
 
         return counted
+
+    def pop(self) -> Optional[Tuple[bytes, Address]]:
+        """The next data, and its peer, or None where there is none yet."""
+        return self.packets.popleft() if self.packets else None
 
     async def take(self) -> Optional[Tuple[bytes, Address]]:
         """The next data, and its peer; None when all is taken and the client has ended."""

@@ -1,7 +1,7 @@
 """An event loop in a thread of its own, and calls into it from other threads.
 
 No call waits for a lock that another one may have: a handler of a signal may interrupt a call, and make another one in the same
-thread. So what is waited for comes through a `queue.SimpleQueue`, whose `put` never waits.
+thread. So what is waited for comes through a `Mailbox`.
 """
 from __future__ import annotations
 
@@ -13,6 +13,7 @@ import threading
 import weakref
 from typing import Any, Awaitable, Callable, Generic, Optional, Set, Tuple, TypeVar
 
+from .mailbox import Mailbox
 from .tasks import Tasks
 
 __all__ = ["LoopThread", "NotAnswered"]
@@ -35,7 +36,8 @@ class _Call(Generic[_Result]):
         self._make = make
         self._task: Optional[asyncio.Future[None]] = None
         self._is_cancelled = False
-        self.answer: queue.SimpleQueue[Tuple[Optional[BaseException], Optional[_Result]]] = queue.SimpleQueue()
+        self.answer = Mailbox[Tuple[Optional[BaseException], Optional[_Result]]]()
+        """what it raises, or returns; it ends without where the thread does"""
 
     def begin(self) -> None:
         """Begins it, in the loop."""
@@ -46,7 +48,7 @@ class _Call(Generic[_Result]):
         try:
             self.answer.put((None, await self._make()))
         except asyncio.CancelledError:
-            self.answer.put((NotAnswered("the thread ends"), None))
+            self.answer.end()
         except BaseException as error:
             self.answer.put((error, None))
 
@@ -68,7 +70,7 @@ class LoopThread:
         self._tasks = Tasks()
         self._loop: Optional[asyncio.AbstractEventLoop] = None
         self._is_over = False
-        self._begun: queue.SimpleQueue[Optional[OSError]] = queue.SimpleQueue()
+        self._begun = Mailbox[OSError]()
 
     def start(self, work: Callable[[], Awaitable[None]]) -> None:
         """Begins, and goes on until the work is done. `OSError` where too many files are open."""
@@ -86,14 +88,14 @@ class LoopThread:
             return self._begun.put(error)
         asyncio.set_event_loop(loop)
         self._loop = loop
-        self._begun.put(None)
+        self._begun.end()
         try:
             loop.run_until_complete(self._live())
         finally:
             self._is_over = True
             loop.close()
             for call in [*self._calls]:
-                call.answer.put((NotAnswered("the thread has ended"), None))
+                call.answer.end()
 
     async def _live(self) -> None:
         try:
@@ -123,7 +125,7 @@ class LoopThread:
         self._calls.add(call)
         try:
             self._post(call.begin)
-            error, result = call.answer.get(timeout=_within(seconds))
+            found = call.answer.get(seconds)
         except queue.Empty:
             self.post(call.cancel)
             raise NotAnswered(f"no answer in {seconds} s") from None
@@ -132,6 +134,9 @@ class LoopThread:
             raise
         finally:
             self._calls.discard(call)
+        if found is None:
+            raise NotAnswered("the thread has ended")
+        error, result = found
         if error is not None:
             raise error
         return result  # type: ignore[return-value]
@@ -164,10 +169,6 @@ class LoopThread:
         """Waits for the end of the thread, but not for long."""
         if not self.is_here and not self.is_forked and self.thread.is_alive():
             self.thread.join(JOIN)
-
-
-def _within(seconds: Optional[float]) -> Optional[float]:
-    return None if seconds is None else min(max(0.0, seconds), threading.TIMEOUT_MAX)
 
 
 _started: weakref.WeakSet[LoopThread] = weakref.WeakSet()

@@ -28,7 +28,7 @@ class Times:
 
     initial: int = 500_000_000
     """from when the request is made to the second transmission, in nanoseconds; then it doubles"""
-    longest: int = 1 << 62
+    longest: int = c.MAX_TIME
     """the longest wait between two transmissions, in nanoseconds"""
     last: int = 8_000_000_000
     """the wait after the last transmission, in nanoseconds"""

@@ -17,6 +17,7 @@ from .errors import Ended
 from .inbox import Inbox, Receiver
 from .link import DatagramLink, Link
 from .loop_thread import LoopThread, NotAnswered
+from .mailbox import Mailbox
 from .session import Session
 from .turn import TurnClient, size_of
 from .wire import writable
@@ -27,8 +28,6 @@ __all__ = ["ThreadClient", "ThreadInbox"]
 FULL = 15.0
 # So many messages wait for the event loop to write them to a connection.
 MAX_OUTGOING = 64
-# How long a thread waits for data at a time, in seconds. Who learns of the end wakes the next one, unless it is interrupted.
-TURN = 10.0
 
 
 class ThreadInbox(Inbox):
@@ -36,15 +35,14 @@ class ThreadInbox(Inbox):
 
     def __init__(self, size: int, receiver: Optional[Receiver]) -> None:
         super().__init__(size, receiver)
-        self._came: queue.SimpleQueue[Optional[Tuple[bytes, Address]]] = queue.SimpleQueue()
-        self.is_over = False
+        self._came = Mailbox[Tuple[bytes, Address]]()
         self.on_end: Callable[[], object] = lambda: None
         """called in the event loop, when no more data comes"""
         if receiver is None:
             self.put = self.put_last = self._add
 
     def _add(self, data: bytes, peer: Address) -> None:
-        if self._came.qsize() >= self._size:
+        if len(self._came) >= self._size:
             self.dropped += 1
         else:
             self._came.put((data, peer))
@@ -52,27 +50,15 @@ class ThreadInbox(Inbox):
     def end(self) -> None:
         """Nothing more comes: wakes up those that wait."""
         super().end()
-        self.is_over = True
-        self._came.put(None)
+        self._came.end()
         self.on_end()
 
     def take_in_thread(self, timeout: Optional[float]) -> Optional[Tuple[bytes, Address]]:
         """The next data, and its peer; None when all is taken and the client has ended. `TimeoutError` after that many seconds."""
-        deadline = None if timeout is None else time.monotonic() + timeout
-        while True:
-            rest = TURN if deadline is None else min(TURN, max(0.0, deadline - time.monotonic()))
-            is_over = self.is_over
-            try:
-                found = self._came.get(timeout=0.0 if is_over else rest)
-            except queue.Empty:
-                if is_over:
-                    return None
-                if deadline is not None and time.monotonic() >= deadline:
-                    raise TimeoutError(f"no data came in {timeout} s") from None
-                continue
-            if found is None:
-                self._came.put(None)  # for the others that wait
-            return found
+        try:
+            return self._came.get(timeout)
+        except queue.Empty:
+            raise TimeoutError(f"no data came in {timeout} s") from None
 
 
 class Tally:

@@ -14,8 +14,7 @@ _IP_RECVERR, _IPV6_RECVERR, _ERROR_QUEUE = 11, 25, 0x2000
 # Of the structure `sock_extended_err`: where its message came from, its type and code; and behind it the sender's address.
 _HEAD = struct.Struct("=IBBBBII")
 _ICMP, _ICMP6 = 2, 3
-# Codes of "destination unreachable" that firewalls choose (RFC 792; RFC 1812, section 5.2.7.1; RFC 4443, section 3.1).
-_BY_RULE = {(_ICMP, 9), (_ICMP, 10), (_ICMP, 13), (_ICMP6, 1), (_ICMP6, 5), (_ICMP6, 6)}
+# Codes of "destination unreachable" (RFC 792; RFC 4443, section 3.1).
 _NO_ROUTE = {(_ICMP, 0), (_ICMP6, 0)}
 
 
@@ -25,8 +24,6 @@ class Rejection:
 
     sender: str
     """the IP address of the router, or of the host, that says so"""
-    is_by_rule: bool
-    """whether it says that a rule forbids the datagram"""
     has_no_route: bool
     """whether it says that there is no way to the network"""
 
@@ -58,7 +55,7 @@ def _parsed(data: bytes) -> Optional[Rejection]:
         return None
     start = _HEAD.size + known[0]
     sender = socket.inet_ntop(family, data[start:start + known[1]])
-    return Rejection(sender, (origin, code) in _BY_RULE, (origin, code) in _NO_ROUTE)
+    return Rejection(sender, (origin, code) in _NO_ROUTE)
 
 
 def _duplicate(file: int) -> socket.socket:

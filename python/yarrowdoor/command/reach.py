@@ -11,6 +11,7 @@ from dataclasses import dataclass
 from typing import Callable, Dict, List, Optional, Sequence, Tuple, Union
 
 from ..address import Address
+from ..mailbox import Mailbox
 from ..servers import interleaved
 from .certificate import Certificate
 from .icmp import Rejection
@@ -83,7 +84,7 @@ def lookup(host: str, port: int, family: Optional[int], seconds: float) -> List[
     """The IP addresses of a name, of one family if it is given, IPv6 and IPv4 by turns. `socket.gaierror` where there is none, and
     `TimeoutError` if there was no answer in time."""
     kind = {None: socket.AF_UNSPEC, 4: socket.AF_INET, 6: socket.AF_INET6}[family]
-    answers: queue.SimpleQueue[Union[List[str], OSError, UnicodeError]] = queue.SimpleQueue()
+    answers = Mailbox[Union[List[str], OSError, UnicodeError]]()
 
     def ask() -> None:
         try:
@@ -94,11 +95,12 @@ def lookup(host: str, port: int, family: Optional[int], seconds: float) -> List[
     # The system may take half a minute, which nothing can end, so this thread is not waited for.
     threading.Thread(target=ask, daemon=True).start()
     try:
-        answer = answers.get(timeout=seconds)
+        answer = answers.get(seconds)
     except queue.Empty:
         raise TimeoutError(f"no answer to the question for {host} in {seconds:g} s") from None
     if isinstance(answer, list):
         return interleaved(answer)
+    assert answer is not None
     raise answer
 
 
