@@ -1,5 +1,5 @@
 -- What a random part leaves of a wait.
-use Rattle.std.proofs.Common.{◌≡◌, ℕ, ◌*◌, ◌-◌, ◌/◌, ◌≤◌, ◌<◌, arith, zero}
+use Rattle.std.proofs.Common.{◌≡◌, ℕ, ◌*◌, ◌-◌, ◌/◌, ◌≤◌, arith}
 use Rattle.std.proofs.Math.Nat.{mul-div-le, mul-le-mul_left, mul-sub}
 
 -- a lot is less than 2^32, so a random part is at most `j` thousandths

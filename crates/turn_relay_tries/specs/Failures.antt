@@ -1,6 +1,5 @@
 -- After which failures a relay is not tried again.
-use Rattle.std.specs.Prelude.{ℕ, ◌+◌, ◌-◌, ◌^◌, ◌==◌, ◌||◌, ◌&&◌, min, max, nat_lt, not, Bool, true, false, if◌then◌else◌, Option, Some, None}
-use Rattle.turn_session_book.specs.declared.causes.Why.{Why}
+use Rattle.std.specs.Prelude.{ℕ, ◌+◌, ◌==◌, ◌||◌, ◌&&◌, min, max, nat_lt, not, Bool, true, false, if◌then◌else◌, Option, Some, None}
 use Rattle.turn_session_book.specs.declared.causes.Why.TheVariants.{Refused, WrongCredentials, CredentialsRefused}
 use Rattle.turn_relay_tries.specs.declared.causes.Cause.{Cause}
 use Rattle.turn_relay_tries.specs.declared.causes.Cause.TheVariants.{Life}

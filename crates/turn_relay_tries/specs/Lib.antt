@@ -1,5 +1,11 @@
+pub mod Addresses
+pub mod AddressesState
 pub mod Attempts
 pub mod Backoff
 pub mod Failures
 pub mod Redirects
+pub mod Tasks
+pub mod TasksState
 pub mod Tries
+pub mod Wanted
+pub mod WantedState

@@ -1,4 +1,4 @@
-use Rattle.std.proofs.Common.{rules, ◌≡◌, ◌≤◌, ◌<◌, ◌%◌, ◌^◌, ◌*◌, ◌-◌, ℕ, min, arith, subst, sym}
+use Rattle.std.proofs.Common.{rules, ◌≤◌, min, arith, subst, sym}
 use Rattle.turn_relay_tries.specs.Backoff.{IsLeast, lot_of}
 use Rattle.turn_relay_tries.proofs.WaitLemmas.{waits-least}
 use Rattle.turn_relay_tries.proofs.backoff.Backoff.drawn.Goals as goal

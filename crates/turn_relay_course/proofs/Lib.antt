@@ -1,0 +1,4 @@
+pub mod FailureLemmas
+pub mod NextLemmas
+pub mod SleepLemmas
+pub mod SpaceLemmas
