@@ -3,14 +3,16 @@ use Rattle.std.specs.Prelude.{ℕ, Bool, true, false, List, [], ◌∷◌, ◌++
 use Rattle.std.specs.Option.{option_map}
 use Rattle.std.specs.declared.net.socket_addr.SocketAddr.{SocketAddr}
 use Rattle.turn_session_book.specs.BookState.{BookState}
-use Rattle.turn_session_book.specs.Held.{is_kept_in, without_grant}
+use Rattle.turn_types.specs.declared.family.AddressFamily.{AddressFamily}
+use Rattle.turn_session_book.specs.Held.{first_held, is_kept_in, without_grant}
 use Rattle.turn_session_book.specs.Held as Held
-use Rattle.turn_session_book.specs.OpenRequests.{request_for, without_request}
+use Rattle.turn_session_book.specs.OpenRequests.{first_made, request_for, without_request}
 use Rattle.turn_session_book.specs.Rests.{after_refusal, without_rest}
 use Rattle.turn_session_book.specs.declared.answers.Outcome.{Outcome}
 use Rattle.turn_session_book.specs.declared.answers.Outcome.TheVariants.{Granted, Refused, TimedOut}
 use Rattle.turn_session_book.specs.declared.events.Event.{Event}
 use Rattle.turn_session_book.specs.declared.events.Event.TheVariants as Events
+use Rattle.turn_session_book.specs.declared.held.HeldGrant.{HeldGrant}
 use Rattle.turn_session_book.specs.declared.keys.Key.{Key}
 use Rattle.turn_session_book.specs.declared.open_requests.OpenRequest.{OpenRequest}
 use Rattle.turn_session_book.specs.declared.replies.ErrorReply.{ErrorReply}
@@ -83,3 +85,14 @@ after_failure key error now b = record {
   events = (b.events ++ option_to_list (end_event key error (is_kept_in key b.held)))
       ++ option_to_list (failure_event key error (request_for key b.requests));
 }
+
+-- ---- an allocation that has ended
+
+-- what is in an allocation of this family: the first grant, or else the first request that does not wait
+abbrev pub first_in : AddressFamily → BookState → Option Key
+first_in family b = by (first_held family b.held) (first_made family b.requests)
+  where
+    by : Option HeldGrant → Option OpenRequest → Option Key
+    by (Some g) _ = Some g.key
+    by None (Some r) = Some r.key
+    by None None = None

@@ -3,7 +3,8 @@ use Rattle.std.specs.Prelude.{Bool, true, false, if◌then◌else◌, List, [], 
 use Rattle.std.specs.List.{list_any}
 use Rattle.std.specs.Option.{option_map_or}
 use Rattle.turn_session_book.specs.First.{with_first, without_first}
-use Rattle.turn_session_book.specs.Keys.{same_key}
+use Rattle.turn_types.specs.declared.family.AddressFamily.{AddressFamily}
+use Rattle.turn_session_book.specs.Keys.{is_in, same_key}
 use Rattle.turn_session_book.specs.declared.held.HeldGrant.{HeldGrant}
 use Rattle.turn_session_book.specs.declared.keys.Key.{Key}
 
@@ -37,3 +38,10 @@ with_mark key is_kept held = with_first (is_of key) (marked is_kept) held
 -- the others
 abbrev pub without_grant : Key → List HeldGrant → List HeldGrant
 without_grant key held = without_first (is_of key) held
+
+-- the first in an allocation of this family
+abbrev pub is_held_in : AddressFamily → HeldGrant → Bool
+is_held_in family g = is_in family g.key
+
+abbrev pub first_held : AddressFamily → List HeldGrant → Option HeldGrant
+first_held family held = find (is_held_in family) held

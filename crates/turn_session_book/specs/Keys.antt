@@ -1,11 +1,12 @@
--- When two keys are the same.
+-- When two keys are the same, and the allocation that a key is in.
 use Rattle.std.specs.Prelude.{◌==◌, ◌&&◌, Bool, false}
 use Rattle.std.specs.Cmp.Lexicographic.{pointwise}
 use Rattle.std.specs.Net.Addr.{ipv4_octets, ipv6_segments}
-use Rattle.std.specs.Net.Socket.{v4_ip, v4_port, v6_ip, v6_port, v6_flowinfo, v6_scope_id}
+use Rattle.std.specs.Net.Socket.{socket_ip, v4_ip, v4_port, v6_ip, v6_port, v6_flowinfo, v6_scope_id}
 use Rattle.std.specs.declared.net.socket_addr.SocketAddr.{SocketAddr}
 use Rattle.std.specs.declared.net.socket_addr.SocketAddr.TheVariants.{V4, V6}
-use Rattle.turn_session_book.specs.Addresses.{same_ip}
+use Rattle.turn_types.specs.declared.family.AddressFamily.{AddressFamily}
+use Rattle.turn_session_book.specs.Addresses.{family_of_ip, same_family, same_ip}
 use Rattle.turn_session_book.specs.declared.keys.Key.{Key}
 use Rattle.turn_session_book.specs.declared.keys.Key.TheVariants.{Permission, Channel, Connect}
 
@@ -24,3 +25,12 @@ same_key (Permission a) (Permission b) = same_ip a b
 same_key (Channel a) (Channel b) = same_peer a b
 same_key (Connect a) (Connect b) = same_peer a b
 same_key _ _ = false
+
+-- a client has at most one allocation of each family, and a peer is reached by that of its own (RFC 8656, section 3)
+abbrev pub family_of_key : Key → AddressFamily
+family_of_key (Permission ip) = family_of_ip ip
+family_of_key (Channel peer) = family_of_ip (socket_ip peer)
+family_of_key (Connect peer) = family_of_ip (socket_ip peer)
+
+abbrev pub is_in : AddressFamily → Key → Bool
+is_in family key = same_family (family_of_key key) family

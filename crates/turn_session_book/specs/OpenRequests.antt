@@ -1,7 +1,8 @@
 -- The requests of the caller that have no outcome yet.
-use Rattle.std.specs.Prelude.{ℕ, ◌-◌, Bool, true, false, List, [], ◌∷◌, ◌++◌, find, length, slice_get, take, Option, Some, None}
+use Rattle.std.specs.Prelude.{ℕ, ◌-◌, ◌&&◌, Bool, true, false, not, List, [], ◌∷◌, ◌++◌, find, length, slice_get, take, Option, Some, None}
 use Rattle.turn_session_book.specs.First.{with_first, without_first}
-use Rattle.turn_session_book.specs.Keys.{same_key}
+use Rattle.turn_types.specs.declared.family.AddressFamily.{AddressFamily}
+use Rattle.turn_session_book.specs.Keys.{is_in, same_key}
 use Rattle.turn_session_book.specs.declared.keys.Key.{Key}
 use Rattle.turn_session_book.specs.declared.open_requests.OpenRequest.{OpenRequest}
 use Rattle.turn_session_book.specs.declared.open_requests.Progress.{Progress}
@@ -54,6 +55,13 @@ is_waiting _ = false
 
 abbrev pub first_waiting : List OpenRequest → Option OpenRequest
 first_waiting requests = find (λ r. is_waiting r.progress) requests
+
+-- a request that does not wait is the client's
+abbrev pub is_made_in : AddressFamily → OpenRequest → Bool
+is_made_in family r = not (is_waiting r.progress) && is_in family r.key
+
+abbrev pub first_made : AddressFamily → List OpenRequest → Option OpenRequest
+first_made family requests = find (is_made_in family) requests
 
 abbrev pub progressed : Progress → OpenRequest → OpenRequest
 progressed progress r = record r { progress = progress }

@@ -2,11 +2,13 @@
 
 ghost use Rattle.std.specs.Prelude.{◌≡◌, [], OnErr, OnOk};
 ghost use Rattle.std.specs.List.{position};
-ghost use Rattle.turn_session_book.specs.Held.{after_grant, is_held, is_kept_held, is_kept_in, is_of, with_mark, without_grant};
+ghost use Rattle.turn_session_book.specs.Held.{after_grant, first_held, is_held, is_held_in, is_kept_held, is_kept_in, is_of};
+ghost use Rattle.turn_session_book.specs.Held.{with_mark, without_grant};
 
-use crate::keys::Key;
+use crate::keys::{Key, is_in};
 use std::alloc::{AllocError, Global};
 use std::marker::Model;
+use turn_types::AddressFamily;
 
 /// A key that the server has granted.
 #[derive(Clone, Copy, Debug, PartialEq, Eq)]
@@ -100,6 +102,25 @@ impl Held {
             }
             None => None,
         }
+    }
+
+    /// The first grant in an allocation of this family.
+    pub fn first_held(&self, family: AddressFamily) -> Option<HeldGrant>
+        ensures { result ≡ first_held family self.now }
+    {
+        match self.held_place(family) {
+            Some(place) => Some(self.grants[place]),
+            None => None,
+        }
+    }
+
+    /// The place of the first grant in an allocation of this family.
+    fn held_place(&self, family: AddressFamily) -> Option<usize>
+        ensures { result ≡ position (is_held_in family) self.now }
+    {
+        self.grants
+            .iter()
+            .position(|grant| is_in(family, grant.key))
     }
 
     /// The place of the grant of this key.

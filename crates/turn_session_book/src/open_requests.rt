@@ -2,14 +2,15 @@
 
 ghost use Rattle.std.specs.Prelude.{◌≡◌, [], IfOk, IsOk, IsSome, OnErr, OnOk, slice_get};
 ghost use Rattle.std.specs.List.{position};
-ghost use Rattle.turn_session_book.specs.OpenRequests.{after_request, first_waiting, is_for, is_waiting, request_for, ticket_for, without_last, without_oldest};
+ghost use Rattle.turn_session_book.specs.OpenRequests.{after_request, first_made, first_waiting, is_for, is_made_in, is_waiting, request_for, ticket_for, without_last, without_oldest};
 ghost use Rattle.turn_session_book.specs.OpenRequests.{with_hint, with_progress, without_request};
 
-use crate::keys::Key;
+use crate::keys::{Key, is_in};
 use crate::replies::ErrorReply;
 use std::alloc::{AllocError, Global};
 use std::marker::Model;
 use turn_stun::instant::Instant;
+use turn_types::AddressFamily;
 
 /// How far a request has come.
 #[derive(Clone, Copy, Debug, PartialEq, Eq)]
@@ -140,6 +141,16 @@ impl OpenRequests {
         }
     }
 
+    /// The first request in an allocation of this family that does not wait.
+    pub fn first_made(&self, family: AddressFamily) -> Option<OpenRequest>
+        ensures { result ≡ first_made family self.now }
+    {
+        match self.made_place(family) {
+            Some(place) => Some(self.requests[place]),
+            None => None,
+        }
+    }
+
     /// The request for this key has come so far.
     pub fn advance(&mut self, key: Key, progress: Progress)
         ensures { self.new ≡ with_progress key progress self.old }
@@ -175,10 +186,26 @@ impl OpenRequests {
             .position(|request| matches!(request.progress, Progress::Waiting))
     }
 
+    /// The place of the first request in an allocation of this family that does not wait.
+    fn made_place(&self, family: AddressFamily) -> Option<usize>
+        ensures { result ≡ position (is_made_in family) self.now }
+    {
+        self.requests
+            .iter()
+            .position(|request| is_made_in(family, request))
+    }
+
     /// The place of the request for this key.
     fn place_of(&self, key: Key) -> Option<usize>
         ensures { result ≡ position (is_for key) self.now }
     {
         self.requests.iter().position(|request| request.key == key)
     }
+}
+
+/// Whether the request is in an allocation of this family, and does not wait.
+fn is_made_in(family: AddressFamily, request: &OpenRequest) -> bool
+    ensures { result ≡ is_made_in family request.now }
+{
+    !matches!(request.progress, Progress::Waiting) && is_in(family, request.key)
 }

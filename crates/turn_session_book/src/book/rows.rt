@@ -1,6 +1,7 @@
 //! The rows of a book.
 
 ghost use Rattle.std.specs.Prelude.{◌≡◌, IfOk, IsOk, IsSome, OnErr, OnOk, drop, slice_get};
+ghost use Rattle.turn_session_book.specs.Book.{first_in};
 ghost use Rattle.turn_session_book.specs.Held.{is_held, is_kept_held, with_mark};
 ghost use Rattle.turn_session_book.specs.OpenRequests.{after_request, first_waiting, request_for, ticket_for, with_hint, with_progress};
 ghost use Rattle.turn_session_book.specs.OpenRequests.{without_last, without_oldest};
@@ -14,6 +15,7 @@ use crate::replies::ErrorReply;
 use crate::rests::Rest;
 use std::alloc::AllocError;
 use turn_stun::instant::Instant;
+use turn_types::AddressFamily;
 
 impl Book {
     /// The request for this key that has no outcome yet.
@@ -50,6 +52,19 @@ impl Book {
         ensures { result ≡ first_waiting self.now.requests }
     {
         self.requests.first_waiting()
+    }
+
+    /// What is in an allocation of this family: the first grant, or else the first request that does not wait.
+    pub fn first_in(&self, family: AddressFamily) -> Option<Key>
+        ensures { result ≡ first_in family self.now }
+    {
+        if let Some(grant) = self.held.first_held(family) {
+            return Some(grant.key);
+        }
+        match self.requests.first_made(family) {
+            Some(request) => Some(request.key),
+            None => None,
+        }
     }
 
     /// The request for this key has come so far.
