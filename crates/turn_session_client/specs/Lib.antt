@@ -3,6 +3,8 @@ pub mod Asking
 pub mod Doubting
 pub mod Drain
 pub mod Ending
+pub mod Expiring
+pub mod ExpiryRows
 pub mod Keeping
 pub mod Leaving
 pub mod Making

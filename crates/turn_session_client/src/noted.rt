@@ -11,6 +11,7 @@ mod data;
 pub mod doubting;
 mod draining;
 mod ending;
+mod expiring;
 mod leaving;
 mod polling;
 mod receiving;
