@@ -13,6 +13,7 @@ mod polling;
 mod receiving;
 mod reporting;
 mod sending;
+mod sockets;
 
 use crate::settings::SessionSettings;
 use std::alloc::Global;

@@ -15,5 +15,6 @@ pub mod Receiving
 pub mod Reporting
 pub mod Rows
 pub mod Sending
+pub mod Sockets
 pub mod NotedState
 pub mod Waiting

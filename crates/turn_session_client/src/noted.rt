@@ -16,6 +16,7 @@ mod leaving;
 mod polling;
 mod receiving;
 mod reporting;
+mod sockets;
 mod waiting;
 
 use crate::notes::Notes;
