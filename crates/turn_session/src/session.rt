@@ -8,6 +8,7 @@ mod asking;
 mod checking;
 mod data;
 mod ending;
+mod giving;
 mod next;
 mod polling;
 mod receiving;

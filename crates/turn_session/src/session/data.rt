@@ -54,7 +54,7 @@ impl<C: TurnClientApi> Session<C> {
     }
 
     /// Data is sent: over a stream the path allows for it.
-    fn note_sending(&mut self, now: Instant)
+    pub(crate) fn note_sending(&mut self, now: Instant)
         ensures { self.new ≡ data_sent now self.old }
     {
         match self.watch.path.transport {
