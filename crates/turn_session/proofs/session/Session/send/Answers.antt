@@ -7,7 +7,8 @@ use Rattle.turn_stun.specs.declared.transport.TransportType.{TransportType}
 use Rattle.turn_stun.specs.declared.transport.TransportType.TheVariants.{Udp, Tcp}
 use Rattle.turn_client_api.specs.Calls.{can_send_to}
 use Rattle.turn_client_api.specs.Grants.{family_of_ip, find_allocation, has_active_permission, same_transport}
-use Rattle.turn_client_api.specs.State.{Relay, State}
+use Rattle.turn_client_api.specs.State.{State}
+use Rattle.turn_client_api.specs.declared.grant.Relay.{Relay}
 use Rattle.turn_session.specs.Giving.{is_longer}
 use Rattle.turn_session.proofs.session.Session.send.Goals as goal
 
