@@ -1,17 +1,20 @@
 -- Checks of the path that the caller asks for.
-use Rattle.std.specs.Prelude.{ℕ, ◌+◌, ◌%◌, ◌==◌, ◌^◌, if◌then◌else◌, Option, Some, None}
+use Rattle.std.specs.Prelude.{ℕ, ◌+◌, ◌%◌, ◌==◌, ◌^◌, if◌then◌else◌, List, Option, Some, None, Result, Ok, Err}
+use Rattle.turn_stun.specs.declared.transport.Transmit.{Transmit}
 use Rattle.turn_stun.specs.declared.transport.TransportType.{TransportType}
 use Rattle.turn_stun.specs.declared.transport.TransportType.TheVariants.{Udp, Tcp}
+use Rattle.turn_client_api.specs.declared.error.SendError.{SendError}
 use Rattle.turn_session_book.specs.declared.answers.Answer.{Answer}
 use Rattle.turn_session_book.specs.declared.answers.Answer.TheVariants.{Ticket, Refused, Ended}
 use Rattle.turn_session_book.specs.declared.answers.CallError.TheVariants.{NoAllocation}
 use Rattle.turn_session_book.specs.declared.causes.Why.{Why}
 use Rattle.turn_session_client.specs.Ending.{is_open}
+use Rattle.turn_session_client.specs.NotedState.{NotedState}
 use Rattle.turn_session_life.specs.Life.{cause_in}
 use Rattle.turn_session_life.specs.Watch.{shared_ticket, watched_check}
 use Rattle.turn_session_path.specs.Path.{after_sending}
 use Rattle.turn_session_path.specs.PathResponses.{after_received}
-use Rattle.turn_session.specs.SessionState.{SessionState, with_watch}
+use Rattle.turn_session.specs.SessionState.{SessionState, with_noted, with_watch}
 
 -- the next ticket is used by a check that begins, and not by one that shares another's
 abbrev pub next_after : ℕ → ℕ → ℕ
@@ -49,3 +52,8 @@ data_sent now s = by s.watch.path.transport
     by : TransportType → SessionState
     by Udp = s
     by Tcp = with_watch (record s.watch { path = after_sending now s.watch.path }) s
+
+-- what the client refuses to send delays none
+abbrev pub sent_after : ℕ → Result (Transmit (List ℕ)) SendError × NotedState → SessionState → SessionState
+sent_after now (Ok packet, noted) s = data_sent now (with_noted noted s)
+sent_after now (Err refusal, noted) s = with_noted noted s

@@ -1,6 +1,7 @@
 pub mod Checking
 pub mod Due
 pub mod Ending
+pub mod Giving
 pub mod PathMessages
 pub mod Polling
 pub mod Receiving

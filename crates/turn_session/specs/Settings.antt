@@ -1,5 +1,5 @@
 -- The settings that a session has unless its caller changes them.
-use Rattle.std.specs.Prelude.{◌≡◌, ℕ, ◌-◌, ◌^◌, min, false, Option, Some, None}
+use Rattle.std.specs.Prelude.{◌≡◌, ℕ, ◌-◌, ◌==◌, ◌^◌, min, false, if◌then◌else◌, option_and_then, Option, Some, None}
 use Rattle.std.specs.Option.{option_map}
 use Rattle.std.specs.Duration.{as_nanos}
 use Rattle.std.specs.declared.time.Duration.{Duration}
@@ -18,6 +18,9 @@ pub record AreDefault (transport : TransportType) (s : SessionSettings) : Type 0
   pub no_peer_is_idle : s.idle ≡ None
   pub leaves_in_2_s : as_nanos s.leave_wait ≡ 2_000_000_000
 
--- the time between two probes, in nanoseconds
+-- the time between two probes, in nanoseconds: without any there are none, since they would follow each other without a pause
+abbrev pub if_above_zero : ℕ → Option ℕ
+if_above_zero nanos = if nanos == 0 then None else Some nanos
+
 abbrev pub probe_nanos : Option Duration → Option ℕ
-probe_nanos probe = option_map (λ time. min (as_nanos time) (2 ^ 64 - 1)) probe
+probe_nanos probe = option_and_then (λ time. if_above_zero (min (as_nanos time) (2 ^ 64 - 1))) probe

@@ -13,5 +13,6 @@
 pub mod constants;
 pub mod due;
 mod path_messages;
+pub mod sent;
 pub mod session;
 pub mod settings;

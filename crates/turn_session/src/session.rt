@@ -8,11 +8,13 @@ mod asking;
 mod checking;
 mod data;
 mod ending;
+mod giving;
 mod next;
 mod polling;
 mod receiving;
 mod reporting;
 mod sending;
+mod sockets;
 
 use crate::settings::SessionSettings;
 use std::alloc::Global;
@@ -97,12 +99,10 @@ impl<C: TurnClientApi> Session<C> {
     }
 }
 
-/// The time between two probes in nanoseconds, of which 2^64 - 1 are the most.
+/// The time between two probes in nanoseconds, of which 2^64 - 1 are the most. Without time between them there are none.
 fn nanos_of(probe: Option<Duration>) -> Option<u64>
     ensures { result ≡ probe_nanos probe }
 {
-    match probe {
-        Some(time) => Some(u64::try_from(time.as_nanos()).unwrap_or(u64::MAX)),
-        None => None,
-    }
+    let nanos = u64::try_from(probe?.as_nanos()).unwrap_or(u64::MAX);
+    if nanos == 0 { None } else { Some(nanos) }
 }

@@ -10,7 +10,7 @@ use turn_stun::transport::TransportType;
 /// The settings of a session.
 #[derive(Clone, Copy, Debug, PartialEq, Eq)]
 pub struct SessionSettings {
-    /// How often the path to the server is checked, or `None` for never.
+    /// How often the path to the server is checked, or `None` or no time at all for never.
     pub probe: Option<Duration>,
     /// Whether the server is asked if it still knows the allocation, after an error of the socket or a check without a
     /// response.

@@ -49,7 +49,7 @@ pub enum Outcome {
     TimedOut(Option<ErrorReply>),
     /// The client could not make the request.
     NotMade(CallError),
-    /// The caller could not open the data connection for it.
+    /// The caller could not open the data connection for it, or it was closed before the server had bound it.
     NotOpened(Tag),
     /// The session ended first.
     Ended(Why),

@@ -16,7 +16,8 @@ pub enum Event {
     Up(SocketAddr, Option<SocketAddr>),
     /// A further relayed address, of the other family.
     Also(SocketAddr),
-    /// There is no relayed address of this family: the server's error, or `None` if there was no response.
+    /// There is no relayed address of this family: the server's error, or `None` if there was no response. A session may also end
+    /// without it: the client reports no family if the ALLOCATE that answers a challenge has no response, and `Over` has the cause.
     FamilyFailed(AddressFamily, Option<ErrorReply>),
     /// The session is about to end for this cause, and deletes its allocation. `Over` follows.
     Ending(Why),

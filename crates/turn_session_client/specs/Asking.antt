@@ -20,6 +20,7 @@ use Rattle.turn_session_life.specs.Life.{cause_in}
 use Rattle.turn_session_client.specs.Keeping.{keep_step}
 use Rattle.turn_session_client.specs.Making.{made}
 use Rattle.turn_session_client.specs.NotedState.{NotedState, with_book}
+use Rattle.turn_session_client.specs.Notes.{adopted}
 use Rattle.turn_session_client.specs.Waiting.{must_wait}
 use Rattle.turn_session_client.specs.declared.making.Made.{Made}
 use Rattle.turn_session_client.specs.declared.making.Made.TheVariants as Client
@@ -56,6 +57,10 @@ grant_of key now s = by (cause_in s.life.phase)
     by : Option Why → Option Answer
     by (Some why) = Some (Ended why)
     by None = known_answer key true now s
+
+-- a permission by which the session has asked the server is the caller's from now on
+abbrev pub taken_over : Key → NotedState → Answer × NotedState
+taken_over key s = (Granted, record s { notes = adopted key s.notes })
 
 -- ---- a new request
 
@@ -95,6 +100,7 @@ Begins answer was s said =
     ((answer ≡ said.0) × (s ≡ said.1)) ⊎ ((answer ≡ Refused OutOfMemory) × (s ≡ was))
 
 abbrev pub Answers : Option Answer → Key → ℕ → Answer → NotedState → NotedState → Type 0
+Answers (Some Granted) key now answer was s = Begins answer was s (taken_over key was)
 Answers (Some known) key now answer was s = (answer ≡ known) × (s ≡ was)
 Answers None key now answer was s = Begins answer was s (begun key now was)
 

@@ -35,11 +35,21 @@ ended why s = with_life (after_end why s.life) s
 abbrev pub may_be_granted : NotedState → Bool
 may_be_granted s = is_open s.life.phase || s.heard.is_challenged
 
--- the caller leaves: at once too if the ALLOCATE was refused, although nobody signed that
+abbrev pub left_open : ℕ → NotedState → NotedState
+left_open now s = with_life (after_leave s.leave_wait now s.life) s
+
+-- at once if the server can't have granted one, and if it has refused the ALLOCATE, although nobody signed that
+abbrev pub left_unopened : ℕ → NotedState → NotedState
+left_unopened now s = if s.heard.is_challenged && not (has_hint s.heard) then left_open now s else ended Closed s
+
+-- the caller leaves; a session that leaves by itself goes on with that, since the server may grant an allocation late
 abbrev pub left : ℕ → NotedState → NotedState
-left now s =
-    if is_open s.life.phase || (s.heard.is_challenged && not (has_hint s.heard)) then with_life (after_leave s.leave_wait now s.life) s
-    else ended Closed s
+left now s = by s.life.phase
+  where
+    by : Phase → NotedState
+    by Open = left_open now s
+    by Opening = left_unopened now s
+    by _ = s
 
 -- the session leaves by itself for this cause
 abbrev pub left_for : Why → ℕ → NotedState → NotedState

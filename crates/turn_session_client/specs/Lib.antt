@@ -3,6 +3,8 @@ pub mod Asking
 pub mod Doubting
 pub mod Drain
 pub mod Ending
+pub mod Expiring
+pub mod ExpiryRows
 pub mod Keeping
 pub mod Leaving
 pub mod Making
@@ -13,5 +15,6 @@ pub mod Receiving
 pub mod Reporting
 pub mod Rows
 pub mod Sending
+pub mod Sockets
 pub mod NotedState
 pub mod Waiting

@@ -54,10 +54,16 @@ without_question key n = record n {
   questions = without_grant key n.questions;
 }
 
+-- one that the caller has requested is its own
+abbrev pub granted : Key → Notes → Notes
+granted key n = without_question key (record n { book = after_grant key n.book })
+
 abbrev pub permitted : Key → Notes → Notes
-permitted key n =
-    if is_question key n then record n { told = Some (record { error = None }) }
-    else without_question key (record n { book = after_grant key n.book })
+permitted key n = if is_question key n then record n { told = Some (record { error = None }) } else granted key n
+
+-- so is one that the caller requests after the server has granted it
+abbrev pub adopted : Key → Notes → Notes
+adopted key n = if is_asked key n then granted key n else n
 
 -- without an error it has timed out, or expired
 abbrev pub told_by : Option ErrorReply → Option Told → Option Told

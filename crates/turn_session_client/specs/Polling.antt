@@ -26,6 +26,7 @@ use Rattle.turn_session_life.specs.declared.verdict.VerdictStep.{VerdictStep}
 use Rattle.turn_session_life.specs.declared.verdict.VerdictStep.TheVariants as Verdict
 use Rattle.turn_session_client.specs.Drain.{drained}
 use Rattle.turn_session_client.specs.Ending.{ended, is_opening, is_over, left_for}
+use Rattle.turn_session_client.specs.Expiring.{ExpiryWaits, expiry_noted, first_expired}
 use Rattle.turn_session_client.specs.Leaving.{PollsLeaving, shortage_end}
 use Rattle.turn_session_client.specs.Making.{made}
 use Rattle.turn_session_client.specs.NotedState.{NotedState, is_stream, with_book}
@@ -132,8 +133,12 @@ sooner time s = by s.life.phase s.verdict.blame
     by Opening (Some blame) = min time blame.until
     by _ _ = time
 
+-- what has ended with its allocation is noted before time passes
+abbrev pub next_time : ℕ → ℕ → NotedState → ℕ
+next_time time now s = if is_some (first_expired s) then now else sooner time s
+
 abbrev pub AfterPoll : ℕ → TurnPollRet → NotedState → NotedState → TurnPollRet → Type 0
-AfterPoll now (WaitUntil time) was s answer = (answer ≡ WaitUntil (sooner time was)) × (s ≡ waiting time now was)
+AfterPoll now (WaitUntil time) was s answer = (answer ≡ WaitUntil (next_time time now was)) × (s ≡ waiting time now was)
 AfterPoll now Closed was s answer = Closes now was s answer
 AfterPoll now said was s answer = (answer ≡ said) × (s ≡ was)
 
@@ -154,9 +159,17 @@ MadeOrPolled now was (false, t) s answer = PollsClient now t s answer
 abbrev pub MakesOrPolls : ℕ → NotedState → NotedState → TurnPollRet → Type 0
 MakesOrPolls now was s answer = MadeOrPolled now was (next_made now was) s answer
 
+abbrev pub ExpiredOrWent : ℕ → NotedState → Bool × NotedState → NotedState → TurnPollRet → Type 0
+ExpiredOrWent now was (true, t) s answer = ((answer ≡ WaitUntil now) × (s ≡ t)) ⊎ (IsShort now answer × ExpiryWaits was s)
+ExpiredOrWent now was (false, t) s answer = MakesOrPolls now t s answer
+
+-- what has ended with its allocation is noted first, one after the other
+abbrev pub ExpiresOrGoesOn : ℕ → NotedState → NotedState → TurnPollRet → Type 0
+ExpiresOrGoesOn now was s answer = ExpiredOrWent now was (expiry_noted now was) s answer
+
 abbrev pub PollsNoted : ℕ → Bool × NotedState → NotedState → TurnPollRet → Type 0
 PollsNoted now (true, t) s answer = (answer ≡ WaitUntil now) × (s ≡ t)
-PollsNoted now (false, t) s answer = MakesOrPolls now t s answer
+PollsNoted now (false, t) s answer = ExpiresOrGoesOn now t s answer
 
 abbrev pub PollsRunning : ℕ → NotedState → NotedState → TurnPollRet → Type 0
 PollsRunning now was s answer =

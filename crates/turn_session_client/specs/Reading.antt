@@ -1,7 +1,7 @@
 -- Responses to requests of the client: what they say, and what of it counts once the client has accepted or ignored them.
-use Rattle.std.specs.Prelude.{◌≡◌, ◌⊎◌, ℕ, Bool, true, not, if◌then◌else◌, List, slice_get, Option, Some, None, IsSome, is_some, option_map}
+use Rattle.std.specs.Prelude.{◌≡◌, ◌⊎◌, ℕ, Bool, true, false, not, if◌then◌else◌, List, slice_get, Option, Some, None, IsSome, is_some, option_and_then, option_map}
 use Rattle.std.specs.declared.net.socket_addr.SocketAddr.{SocketAddr}
-use Rattle.turn_stun.specs.Message.{fault_of, id_of}
+use Rattle.turn_stun.specs.Message.{IsMessage, attributes_of, fault_of, id_of, type_of}
 use Rattle.turn_stun.specs.declared.message.header.MessageClass.{MessageClass}
 use Rattle.turn_stun.specs.declared.message.header.MessageClass.TheVariants as Class
 use Rattle.turn_client_api.specs.Grants.{purposes_of}
@@ -9,8 +9,10 @@ use Rattle.turn_client_api.specs.Judgement.{class_in, lifetime_in}
 use Rattle.turn_client_api.specs.RequestViews.{viewed_request}
 use Rattle.turn_client_api.specs.State.{State}
 use Rattle.turn_client_api.specs.declared.grant.Purpose.{Purpose}
-use Rattle.turn_client_api.specs.declared.grant.Purpose.TheVariants.{ForAllocation, ForRefresh}
+use Rattle.turn_client_api.specs.declared.grant.Purpose.TheVariants.{ForAllocation, ForRefresh, ForPermission, ForChannel, ForConnect, ForBind}
 use Rattle.turn_hints.specs.Hints.{mapped_in}
+use Rattle.turn_session_book.specs.declared.keys.Key.{Key}
+use Rattle.turn_session_book.specs.declared.keys.Key.TheVariants.{Permission, Channel, Connect}
 use Rattle.turn_session_book.specs.declared.replies.ErrorReply.{ErrorReply}
 use Rattle.turn_session_life.specs.declared.responses.Asked.{Asked}
 use Rattle.turn_session_life.specs.declared.responses.Asked.TheVariants.{Allocate, Refresh, Other}
@@ -29,6 +31,14 @@ asked_for ForAllocation = Allocate
 asked_for (ForRefresh family lifetime) = Refresh
 asked_for _ = Other
 
+-- the grant that a request was made for; a CONNECTION_BIND ends what a CONNECT began (RFC 6062, section 4.3)
+abbrev pub key_for : Purpose → Option Key
+key_for (ForPermission ip) = Some (Permission ip)
+key_for (ForChannel number peer) = Some (Channel peer)
+key_for (ForConnect peer) = Some (Connect peer)
+key_for (ForBind local peer id) = Some (Connect peer)
+key_for _ = None
+
 -- what a success and an error say; requests and indications are none
 abbrev pub IsText : List ℕ → Option Text → Type 0
 IsText bytes text = by (class_in bytes) text
@@ -43,9 +53,17 @@ IsText bytes text = by (class_in bytes) text
 abbrev pub first_purpose : List ℕ → State → Option Purpose
 first_purpose bytes s = slice_get (purposes_of (id_of bytes) s) 0
 
+-- a CHANNEL_BIND is for a permission too, if none was there (RFC 8656, section 12.2)
+abbrev pub second_purpose : List ℕ → State → Option Purpose
+second_purpose bytes s = slice_get (purposes_of (id_of bytes) s) 1
+
 -- a response answers the request that the client lists under its ID
 pub record IsResponseTo (bytes : List ℕ) (s : State) (r : Reading) : Type 0 where
+  pub is_message : is_channel_data bytes ≡ false
+  pub is_valid : IsMessage bytes (type_of bytes) (id_of bytes) (attributes_of bytes)
   pub asked : option_map asked_for (first_purpose bytes s) ≡ Some r.asked
+  pub key : option_map key_for (first_purpose bytes s) ≡ Some r.key
+  pub second : r.second ≡ option_and_then key_for (second_purpose bytes s)
   pub is_awaited : r.is_awaited ≡ is_some (viewed_request (id_of bytes) s).resends
   pub text : IsText bytes (Some r.text)
 
@@ -74,6 +92,14 @@ said_by _ _ _ = Nothing
 
 abbrev pub response_to : Reading → Bool → Response
 response_to r is_taken = record { asked = r.asked; said = said_by r.text r.is_awaited is_taken }
+
+-- an error that the client has ignored, which anyone may have sent
+abbrev pub ignored_in : Response → Option ErrorReply
+ignored_in r = by r.said
+  where
+    by : Said → Option ErrorReply
+    by (Denied error) = if not error.is_taken then Some error else None
+    by _ = None
 
 -- an error of the ALLOCATE that is not signed
 abbrev pub hint_in : Response → Option ErrorReply

@@ -7,7 +7,10 @@ use Rattle.turn_client_api.specs.Payloads as Outcomes
 use Rattle.turn_client_api.specs.Receive.{recv_step}
 use Rattle.turn_client_api.specs.State.{State}
 use Rattle.turn_client_api.specs.declared.event.TurnEvent.{TurnEvent}
+use Rattle.turn_session_book.specs.BookState.{BookState}
+use Rattle.turn_session_book.specs.OpenRequests.{with_hint}
 use Rattle.turn_session_book.specs.declared.causes.Why.TheVariants.{OutOfMemory}
+use Rattle.turn_session_book.specs.declared.keys.Key.{Key}
 use Rattle.turn_session_book.specs.declared.replies.ErrorReply.{ErrorReply}
 use Rattle.turn_session_life.specs.Doubts as Doubting
 use Rattle.turn_session_life.specs.Heard as Heard
@@ -20,8 +23,8 @@ use Rattle.turn_session_life.specs.declared.responses.Response.{Response}
 use Rattle.turn_session_life.specs.declared.verdict.Blame.{Blame}
 use Rattle.turn_session_client.specs.Drain.{drained}
 use Rattle.turn_session_client.specs.Ending.{is_open}
-use Rattle.turn_session_client.specs.Reading.{IsReading, hint_in, mapped_after, reply_in, response_to}
-use Rattle.turn_session_client.specs.NotedState.{NotedState, with_life}
+use Rattle.turn_session_client.specs.Reading.{IsReading, hint_in, ignored_in, mapped_after, reply_in, response_to}
+use Rattle.turn_session_client.specs.NotedState.{NotedState, with_book, with_life}
 use Rattle.turn_session_client.specs.declared.reading.Reading.{Reading}
 
 abbrev pub is_taken : Outcome → Bool
@@ -54,10 +57,26 @@ noted_response r now s =
       verdict = record { blame = blamed (hint_in r) heard.is_challenged now (Verdict.after_response s.verdict.blame) };
     }
 
+-- an error that the client has ignored is noted with the request for this key, if it is open
+abbrev pub hinted : Option Key → ErrorReply → BookState → BookState
+hinted None e b = b
+hinted (Some key) e b = record b { requests = with_hint key e b.requests }
+
+-- of a channel and its permission with both
+abbrev pub with_hints : Reading → Response → NotedState → NotedState
+with_hints r response s = by (ignored_in response)
+  where
+    by : Option ErrorReply → NotedState
+    by None = s
+    by (Some e) = with_book (hinted r.second e (hinted r.key e s.notes.book)) s
+
+abbrev pub with_mapped : Reading → Bool → NotedState → NotedState
+with_mapped r taken s = record s { notes = record s.notes { mapped = mapped_after r taken s.notes.mapped } }
+
 abbrev pub noted_reading : Option Reading → Bool → ℕ → NotedState → NotedState
 noted_reading None taken now s = s
 noted_reading (Some r) taken now s =
-    noted_response (response_to r taken) now (record s { notes = record s.notes { mapped = mapped_after r taken s.notes.mapped } })
+    let response = response_to r taken in noted_response response now (with_hints r response (with_mapped r taken s))
 
 -- while an earlier event is to be noted, no error is: that event has the one before
 abbrev pub reply_for : Option Reading → NotedState → Option ErrorReply

@@ -22,4 +22,4 @@ mod question;
 pub mod reading;
 mod refused;
 
-pub use refused::refusals_are_reported;
+pub use refused::{expiries_are_reported, refusals_are_reported};

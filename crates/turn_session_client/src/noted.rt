@@ -11,10 +11,12 @@ mod data;
 pub mod doubting;
 mod draining;
 mod ending;
+mod expiring;
 mod leaving;
 mod polling;
 mod receiving;
 mod reporting;
+mod sockets;
 mod waiting;
 
 use crate::notes::Notes;

@@ -1,7 +1,7 @@
 //! What is noted of a client.
 
 ghost use Rattle.std.specs.Prelude.{◌≡◌, OnErr, OnOk};
-ghost use Rattle.turn_session_client.specs.Notes.{failed, new_notes, noted, permission_failed, permitted};
+ghost use Rattle.turn_session_client.specs.Notes.{adopted, failed, new_notes, noted, permission_failed, permitted};
 ghost use Rattle.turn_session_client.specs.Notes.{is_asked, is_last_question, is_question, question_failed, shelved, without_question};
 
 use std::alloc::{AllocError, Global};
@@ -102,6 +102,24 @@ impl Notes {
     {
         if self.is_question(key) {
             self.told = Some(Told { error: None });
+            return Ok(());
+        }
+        self.book.granted(key)?;
+        self.forget_question(key);
+        Ok(())
+    }
+
+    /// The caller requests this permission, which is granted. If it was a question, it is the caller's from now on, as if the server
+    /// had granted it now.
+    ///
+    /// # Errors
+    ///
+    /// If memory allocation fails. Nothing changes then.
+    pub fn adopt(&mut self, key: Key) -> Result<(), AllocError>
+        ensures ok { OnOk result (self.new ≡ adopted key self.old) }
+        ensures err { OnErr result (self.new ≡ self.old) }
+    {
+        if !self.is_asked(key) {
             return Ok(());
         }
         self.book.granted(key)?;

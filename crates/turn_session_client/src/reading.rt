@@ -1,13 +1,15 @@
 //! Responses to requests of the client, as they are before the client accepts or ignores them.
 
-ghost use Rattle.std.specs.Prelude.{◌≡◌};
+ghost use Rattle.std.specs.Prelude.{◌≡◌, option_and_then};
 ghost use Rattle.turn_client_api.specs.Judgement.{lifetime_in};
-ghost use Rattle.turn_session_client.specs.Reading.{IsReading, IsText, asked_for, hint_in, mapped_after, reply_in, response_to};
+ghost use Rattle.turn_session_client.specs.Reading.{IsReading, IsText, asked_for, hint_in, ignored_in, key_for, mapped_after};
+ghost use Rattle.turn_session_client.specs.Reading.{reply_in, response_to};
 
 use crate::answering::{is_channel_data, reply_of};
 use std::net::SocketAddr;
 use turn_client_api::{Purpose, TurnClientApi};
 use turn_hints::mapped_address_of;
+use turn_session_book::keys::Key;
 use turn_session_book::replies::ErrorReply;
 use turn_session_life::responses::{Asked, Response, Said};
 use turn_stun::message::Message;
@@ -28,6 +30,10 @@ pub enum Text {
 pub struct Reading {
     /// The request that it answers.
     pub asked: Asked,
+    /// What that was made for, if it was for a grant.
+    pub key: Option<Key>,
+    /// The permission that a request for a channel was made for too (RFC 8656, section 12.2).
+    pub second: Option<Key>,
     /// Whether that request awaits a response.
     pub is_awaited: bool,
     /// What it says.
@@ -47,6 +53,8 @@ pub(crate) fn read<C: TurnClientApi>(bytes: &[u8], client: &C) -> Option<Reading
     let text = text_of(&message)?;
     Some(Reading {
         asked: asked_for(purpose),
+        key: key_for(purpose),
+        second: second_key(view.second),
         is_awaited: view.resends.is_some(),
         text,
     })
@@ -87,6 +95,26 @@ fn asked_for(purpose: Purpose) -> Asked
     }
 }
 
+/// The grant for which a request with this purpose was made.
+fn key_for(purpose: Purpose) -> Option<Key>
+    ensures { result ≡ key_for purpose }
+{
+    match purpose {
+        Purpose::ForPermission(ip) => Some(Key::Permission(ip)),
+        Purpose::ForChannel(_, peer) => Some(Key::Channel(peer)),
+        Purpose::ForConnect(peer) => Some(Key::Connect(peer)),
+        Purpose::ForBind(_, peer, _) => Some(Key::Connect(peer)),
+        _ => None,
+    }
+}
+
+/// The grant for which a request was made too.
+fn second_key(purpose: Option<Purpose>) -> Option<Key>
+    ensures { result ≡ option_and_then key_for purpose }
+{
+    key_for(purpose?)
+}
+
 /// The error of a response, as an event of the client reports it that accepts it.
 pub(crate) fn reply_in(reading: Option<Reading>) -> Option<ErrorReply>
     ensures { result ≡ reply_in reading }
@@ -118,6 +146,16 @@ pub(crate) fn hint_in(response: Response) -> Option<ErrorReply>
 {
     match (response.asked, response.said) {
         (Asked::Allocate, Said::Denied(error)) if !error.is_taken => Some(error),
+        _ => None,
+    }
+}
+
+/// The error that the response has, if it answers a request that awaits one and the client has ignored it.
+pub(crate) fn ignored_in(response: Response) -> Option<ErrorReply>
+    ensures { result ≡ ignored_in response }
+{
+    match response.said {
+        Said::Denied(error) if !error.is_taken => Some(error),
         _ => None,
     }
 }

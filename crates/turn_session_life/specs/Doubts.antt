@@ -1,5 +1,5 @@
 -- Whether the server still knows the allocation and accepts user name and password: the doubts of both, and what they lead to.
-use Rattle.std.specs.Prelude.{ℕ, ◌+◌, ◌&&◌, nat_lt, not, Bool, true, false, if◌then◌else◌, Option, Some, None}
+use Rattle.std.specs.Prelude.{ℕ, ◌+◌, nat_lt, not, Bool, true, false, if◌then◌else◌, Option, Some, None}
 use Rattle.turn_session_book.specs.declared.causes.Why.{Why}
 use Rattle.turn_session_book.specs.declared.causes.Why.TheVariants.{CredentialsRefused, Forgotten, Unanswered}
 use Rattle.turn_session_book.specs.declared.replies.ErrorReply.{ErrorReply}
@@ -25,7 +25,7 @@ use Rattle.turn_session_life.specs.declared.responses.Said.TheVariants.{Granted,
 
 abbrev pub no_doubts : Bool → Doubts
 no_doubts checks =
-    record { checks = checks; suspicion = no_doubt; credentials = no_refusal; hint = None; is_asking = false; number = 1; is_ipv6 = false }
+    record { checks = checks; suspicion = no_doubt; credentials = no_refusal; is_asking = false; number = 1; is_ipv6 = false }
 
 -- ---- what makes one doubt
 
@@ -47,17 +47,18 @@ after_401 now d = record d {
   suspicion = if is_first_refusal d.credentials then Suspicions.after_doubt d.suspicion else d.suspicion;
 }
 
-abbrev pub after_hint : ErrorReply → Doubts → Doubts
-after_hint e d = if is_forgotten e.code then record d { hint = Some e } else d
-
--- an error that nobody signed
-abbrev pub after_refusal : ErrorReply → ℕ → Doubts → Doubts
-after_refusal e now d =
-    let h = after_hint e d in if h.checks && has_code 401 e then after_401 now h else h
+-- where errors lead to doubts
+abbrev pub after_refusal : ℕ → Doubts → Doubts
+after_refusal now d = if d.checks then after_401 now d else d
 
 -- a challenge that the client answers says nothing
 abbrev pub after_error : ErrorReply → ℕ → Doubts → Doubts
-after_error e now d = if e.is_taken then (if is_challenge e then d else after_signed d) else after_refusal e now d
+after_error e now d = by e.is_taken (is_challenge e) (has_code 401 e)
+  where
+    by : Bool → Bool → Bool → Doubts
+    by true false _ = after_signed d
+    by false _ true = after_refusal now d
+    by _ _ _ = d
 
 -- a server that does not know the allocation
 abbrev pub after_denial : ErrorReply → ℕ → Doubts → Doubts
@@ -95,17 +96,9 @@ cause_told (Some e) = if is_forgotten e.code then Some (Forgotten e) else None
 abbrev pub after_told : Option ErrorReply → ℕ → Doubts → Doubts
 after_told error now d =
     if is_forgotten (code_of error) then d
-    else record d { suspicion = Suspicions.after_answer (code_of error) now d.suspicion; hint = None }
+    else record d { suspicion = Suspicions.after_answer (code_of error) now d.suspicion }
 
--- ---- what is due
-
--- three in a row without an answer: the server no longer knows the allocation, as an error says that nobody signed, or it is silent
-abbrev pub silence : Doubts → Why
-silence d = by d.hint
-  where
-    by : Option ErrorReply → Why
-    by (Some e) = Forgotten e
-    by None = Unanswered 3
+-- ---- what is due: three requests in a row without an answer are the end, whatever errors say that nobody signed
 
 abbrev pub later_step : Option ℕ → Option ℕ → DoubtsStep
 later_step grace time = by (sooner grace time)
@@ -121,7 +114,7 @@ suspicion_polled grace now d = by (suspicion_step now d.suspicion)
     by (Doubting.Ask, after) = (Ask, record d { suspicion = after; is_asking = true })
     by (Doubting.WaitUntil time, after) = (later_step grace (Some time), record d { suspicion = after })
     by (Doubting.Idle, after) = (later_step grace None, record d { suspicion = after })
-    by (Doubting.Unanswered, after) = (End (silence d), record d { suspicion = after })
+    by (Doubting.Unanswered, after) = (End (Unanswered 3), record d { suspicion = after })
 
 abbrev pub doubts_polled : ℕ → CredentialsStep → Doubts → DoubtsStep × Doubts
 doubts_polled now Accepting.Refused d = (End CredentialsRefused, d)

@@ -2,7 +2,7 @@
 
 ghost use Rattle.std.specs.Prelude.{◌≡◌};
 ghost use Rattle.turn_session_life.specs.Doubts.{after_asking, after_denial, after_doubt, after_move, after_refusal, after_response};
-ghost use Rattle.turn_session_life.specs.Doubts.{after_told, cause_told, doubts_step, no_doubts, number_after, silence, suspicion_polled, later_step};
+ghost use Rattle.turn_session_life.specs.Doubts.{after_told, cause_told, doubts_step, no_doubts, number_after, suspicion_polled, later_step};
 ghost use Rattle.turn_session_life.specs.Heard.{has_code};
 
 use crate::heard::is_challenge;
@@ -52,8 +52,6 @@ pub struct Doubts {
     pub suspicion: Suspicion,
     /// Those of user name and password.
     pub credentials: Credentials,
-    /// The last error of a server that no longer knows the allocation, if nobody signed it, since the server last did.
-    pub hint: Option<ErrorReply>,
     /// Whether the server is to be asked now.
     pub is_asking: bool,
     /// The number of the address that is asked for next, from 1 to 254.
@@ -71,7 +69,6 @@ impl Doubts {
             checks,
             suspicion: Suspicion::new(),
             credentials: Credentials::new(),
-            hint: None,
             is_asking: false,
             number: 1,
             is_ipv6: false,
@@ -119,7 +116,6 @@ impl Doubts {
         } else {
             let _forgotten = self.suspicion.answered(None, now);
         }
-        self.hint = None;
         None
     }
 
@@ -158,7 +154,7 @@ impl Doubts {
         }
     }
 
-    /// An error. One that nobody signed is a hint.
+    /// An error, which a server that no longer knows the allocation may have sent, signed or not.
     fn denied(&mut self, error: ErrorReply, now: Instant)
         ensures { self.new ≡ after_denial error now self.old }
     {
@@ -166,22 +162,19 @@ impl Doubts {
             if !is_challenge(&error) {
                 self.credentials.signed();
             }
-        } else {
-            self.refused(error, now);
+        } else if is_unauthorized(&error) {
+            self.refused(now);
         }
         if is_forgotten(error.code) {
             self.doubt();
         }
     }
 
-    /// An error that nobody signed: a first 401 to a signed request is a doubt.
-    fn refused(&mut self, error: ErrorReply, now: Instant)
-        ensures { self.new ≡ after_refusal error now self.old }
+    /// A 401 that nobody signed: the first one to a signed request is a doubt.
+    fn refused(&mut self, now: Instant)
+        ensures { self.new ≡ after_refusal now self.old }
     {
-        if is_forgotten(error.code) {
-            self.hint = Some(error);
-        }
-        if self.checks && is_unauthorized(&error) && self.credentials.refused(now) {
+        if self.checks && self.credentials.refused(now) {
             self.suspicion.doubt();
         }
     }
@@ -197,18 +190,7 @@ impl Doubts {
             }
             DoubtStep::WaitUntil(time) => later_step(grace, Some(time)),
             DoubtStep::Idle => later_step(grace, None),
-            DoubtStep::Unanswered => DoubtsStep::End(self.silence()),
-        }
-    }
-
-    /// Why the session ends if the server has answered none of three such requests: it no longer knows the allocation, as an error
-    /// says that nobody signed, or nothing says why.
-    fn silence(&self) -> Why
-        ensures { result ≡ silence self.now }
-    {
-        match self.hint {
-            Some(error) => Why::Forgotten(error),
-            None => Why::Unanswered(RUN),
+            DoubtStep::Unanswered => DoubtsStep::End(Why::Unanswered(RUN)),
         }
     }
 }

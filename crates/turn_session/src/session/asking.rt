@@ -17,6 +17,7 @@ impl<C: TurnClientApi> Session<C> {
     /// With a ticket the request has begun, and an event reports its outcome under that ticket, once. It is that of an earlier
     /// request of the same key that is under way. At most eight requests of the client are queued at a time, and the others wait
     /// here, in the order in which they were made. Without memory nothing is requested, nor by a session that leaves or has ended.
+    /// What is granted is the caller's, also a permission by which the session has asked whether the server knows the allocation.
     pub fn request(&mut self, key: Key, is_for_data: bool, now: Instant) -> Answer
         requires now_in_range { now ≤ 2 ^ 62 }
         ensures answer { Requests key is_for_data now result self.old.noted self.new.noted }

@@ -8,7 +8,7 @@ ghost use Rattle.turn_client_api.specs.Streams.{HoldsLittle, poll_recv_step};
 ghost use Rattle.turn_session_client.specs.Ending.{is_over};
 ghost use Rattle.turn_session_client.specs.Receiving.{ended_with};
 ghost use Rattle.turn_session_client.specs.Sending.{sent_step};
-ghost use Rattle.turn_session.specs.Checking.{data_sent};
+ghost use Rattle.turn_session.specs.Checking.{data_sent, sent_after};
 ghost use Rattle.turn_session.specs.SessionState.{with_noted};
 
 use crate::session::Session;
@@ -35,7 +35,7 @@ impl<C: TurnClientApi> Session<C> {
     ///
     /// # Errors
     ///
-    /// Those of the client's call, and `NoAllocation` after the end. Nothing is sent then.
+    /// Those of the client's call, and `NoAllocation` after the end. Nothing changes then.
     pub fn send_to<T: AsSlice<u8> + Debug + Drop>(
         &mut self,
         transport: TransportType,
@@ -46,14 +46,15 @@ impl<C: TurnClientApi> Session<C> {
         requires now_in_range { now ≤ 2 ^ 62 }
         requires short { self.old.noted.client.config.allocation_transport ≡ Udp → length (T.items «data») ≤ 65504 }
         ensures answer { IsSent result (sent_step transport to (T.items «data») now self.old.noted).0 }
-        ensures after { self.new ≡ data_sent now (with_noted (sent_step transport to (T.items «data») now self.old.noted).1 self.old) }
+        ensures after { self.new ≡ sent_after now (sent_step transport to (T.items «data») now self.old.noted) self.old }
     {
+        let packet = self.noted.send_to(transport, to, data, now)?;
         self.note_sending(now);
-        self.noted.send_to(transport, to, data, now)
+        Ok(packet)
     }
 
     /// Data is sent: over a stream the path allows for it.
-    fn note_sending(&mut self, now: Instant)
+    pub(crate) fn note_sending(&mut self, now: Instant)
         ensures { self.new ≡ data_sent now self.old }
     {
         match self.watch.path.transport {

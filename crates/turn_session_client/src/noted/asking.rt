@@ -2,7 +2,7 @@
 
 ghost use Rattle.std.specs.Prelude.{◌≡◌, ◌≤◌, ◌^◌, true};
 ghost use Rattle.turn_session_client.specs.Asking.{Answers, Begins, Requests, added, answer_with, begun};
-ghost use Rattle.turn_session_client.specs.Asking.{grant_of, is_granted, keep_result, known_answer, makes};
+ghost use Rattle.turn_session_client.specs.Asking.{grant_of, is_granted, keep_result, known_answer, makes, taken_over};
 ghost use Rattle.turn_session_client.specs.Keeping.{keep_step, kept_while_running};
 ghost use Rattle.turn_session_client.specs.Waiting.{must_wait};
 ghost use Rattle.turn_session_book.specs.OpenRequests.{request_for};
@@ -25,6 +25,7 @@ impl<C: TurnClientApi> NotedClient<C> {
     /// With a ticket the request has begun, and an event reports its outcome under that ticket, once. It is that of an earlier
     /// request of the same key that is under way. At most eight requests of the client are queued at a time, and the others wait
     /// here, in the order in which they were made. Without memory nothing is requested, nor by a session that leaves or has ended.
+    /// What is granted is the caller's, also a permission by which the session has asked whether the server knows the allocation.
     pub fn request(&mut self, key: Key, is_for_data: bool, now: Instant) -> Answer
         requires now_in_range { now ≤ 2 ^ 62 }
         ensures { Requests key is_for_data now result self.old self.new }
@@ -42,8 +43,20 @@ impl<C: TurnClientApi> NotedClient<C> {
     {
         let _known = self.keep(key, true);
         match self.known_answer(key, is_for_data, now) {
+            Some(Answer::Granted) => self.take_over(key),
             Some(answer) => answer,
             None => self.begin(key, now),
+        }
+    }
+
+    /// Answers a request for this key, which is granted. What the server granted to a question is the caller's from now on, so that its
+    /// end is reported.
+    fn take_over(&mut self, key: Key) -> Answer
+        ensures { Begins result self.old self.new (taken_over key self.old) }
+    {
+        match self.notes.adopt(key) {
+            Ok(()) => Answer::Granted,
+            Err(_) => Answer::Refused(CallError::OutOfMemory),
         }
     }
 

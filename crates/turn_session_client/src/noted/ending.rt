@@ -1,7 +1,7 @@
 //! What ends a session, as its caller reports it.
 
 ghost use Rattle.std.specs.Prelude.{◌≡◌, ◌≤◌, ◌^◌, IfOk, IsOk, OnErr, OnOk};
-ghost use Rattle.turn_session_client.specs.Ending.{abandon_result, abandon_state, after_socket_error, ended, left, left_for};
+ghost use Rattle.turn_session_client.specs.Ending.{abandon_result, abandon_state, after_socket_error, ended, left, left_for, left_unopened};
 
 use crate::noted::NotedClient;
 use std::alloc::AllocError;
@@ -20,8 +20,18 @@ impl<C: TurnClientApi> NotedClient<C> {
     pub fn leave(&mut self, now: Instant)
         ensures { self.new ≡ left now self.old }
     {
-        let is_open = matches!(self.life.phase, Phase::Open);
-        if is_open || self.heard.is_challenged && !self.heard.has_hint() {
+        match self.life.phase {
+            Phase::Open => self.life.leave(self.leave_wait, now),
+            Phase::Opening => self.leave_unopened(now),
+            _ => {}
+        }
+    }
+
+    /// The caller leaves while the allocation is requested.
+    fn leave_unopened(&mut self, now: Instant)
+        ensures { self.new ≡ left_unopened now self.old }
+    {
+        if self.heard.is_challenged && !self.heard.has_hint() {
             self.life.leave(self.leave_wait, now);
         } else {
             self.life.end(Why::Closed);

@@ -5,8 +5,8 @@ ghost use Rattle.turn_client_api.specs.Effect.{closed};
 ghost use Rattle.turn_client_api.specs.Transmit.{next_transmit};
 ghost use Rattle.turn_session_client.specs.Drain.{drained};
 ghost use Rattle.turn_session_client.specs.Ending.{ended};
-ghost use Rattle.turn_session_client.specs.Polling.{AfterPoll, Closes, IsCause, MakesOrPolls, Polls, PollsClient, PollsRunning, cause_noted, opened};
-ghost use Rattle.turn_session_client.specs.Polling.{prepared, silent_grant, sooner, transmitted, waiting};
+ghost use Rattle.turn_session_client.specs.Polling.{AfterPoll, Closes, ExpiresOrGoesOn, IsCause, MakesOrPolls, Polls, PollsClient, PollsRunning};
+ghost use Rattle.turn_session_client.specs.Polling.{cause_noted, next_time, opened, prepared, silent_grant, sooner, transmitted, waiting};
 
 use crate::noted::NotedClient;
 use crate::noted::leaving::shortage_end;
@@ -65,8 +65,20 @@ impl<C: TurnClientApi> NotedClient<C> {
         Ok(self.note_cause(now))
     }
 
-    /// Makes a request that waits, or polls the client.
+    /// Notes what has ended with its allocation, one after the other, and goes on then.
     fn poll_prepared(&mut self, now: Instant) -> TurnPollRet
+        requires now_in_range { now ≤ 2 ^ 62 }
+        ensures { ExpiresOrGoesOn now self.old self.new result }
+    {
+        match self.note_expiry(now) {
+            Ok(false) => self.make_or_poll(now),
+            Ok(true) => TurnPollRet::WaitUntil(now),
+            Err(_) => TurnPollRet::WaitUntil(shortage_end(now)),
+        }
+    }
+
+    /// Makes a request that waits, or polls the client.
+    fn make_or_poll(&mut self, now: Instant) -> TurnPollRet
         requires now_in_range { now ≤ 2 ^ 62 }
         ensures { MakesOrPolls now self.old self.new result }
     {
@@ -139,7 +151,7 @@ impl<C: TurnClientApi> NotedClient<C> {
             TurnPollRet::Closed => self.close(now),
             TurnPollRet::WaitUntil(time) => {
                 self.settle(time, now);
-                TurnPollRet::WaitUntil(self.sooner(time))
+                TurnPollRet::WaitUntil(self.next_time(time, now))
             }
             _ => answer,
         }
@@ -151,6 +163,16 @@ impl<C: TurnClientApi> NotedClient<C> {
     {
         if now < time {
             self.heard.settle();
+        }
+    }
+
+    /// When to poll again a client that waits until this time: now, if something has ended with its allocation.
+    fn next_time(&self, time: Instant, now: Instant) -> Instant
+        ensures { result ≡ next_time time now self.now }
+    {
+        match self.first_expired() {
+            Some(_key) => now,
+            None => self.sooner(time),
         }
     }
 

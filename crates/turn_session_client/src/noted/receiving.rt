@@ -7,9 +7,10 @@ ghost use Rattle.turn_session_client.specs.Drain.{drained};
 ghost use Rattle.turn_session_client.specs.Reading.{IsReading};
 ghost use Rattle.turn_session_client.specs.declared.reading.Reading.{Reading};
 ghost use Rattle.turn_session_client.specs.Receiving.{Receives, ended_with, heard_step, noted_response, outcome_in, reply_for, received};
+ghost use Rattle.turn_session_client.specs.Receiving.{with_hints};
 
 use crate::noted::NotedClient;
-use crate::reading::{Reading, hint_in, mapped_after, read, reply_in, response_to};
+use crate::reading::{Reading, hint_in, ignored_in, mapped_after, read, reply_in, response_to};
 use std::alloc::AllocError;
 use std::convert::AsSlice;
 use std::fmt::Debug;
@@ -127,7 +128,24 @@ impl<C: TurnClientApi> NotedClient<C> {
         }
         if let Some(reading) = reading {
             self.notes.mapped = mapped_after(reading, is_taken, self.notes.mapped);
-            self.note_response(response_to(reading, is_taken), now);
+            let response = response_to(reading, is_taken);
+            self.note_hint(reading, response);
+            self.note_response(response, now);
+        }
+    }
+
+    /// Notes an error that the client has ignored with the requests that it answers: if one times out, its outcome has that error.
+    fn note_hint(&mut self, reading: Reading, response: Response)
+        ensures { self.new ≡ with_hints reading response self.old }
+    {
+        let Some(error) = ignored_in(response) else {
+            return;
+        };
+        if let Some(key) = reading.key {
+            self.notes.book.hint(key, error);
+        }
+        if let Some(key) = reading.second {
+            self.notes.book.hint(key, error);
         }
     }
 
