@@ -1,6 +1,6 @@
 // A client whose channel 4000 to 10.0.0.3:9000 is bound, by the lines of a handshake.
 import { answerTo } from "../lines/answers.js";
-import { Client } from "../src/index.js";
+import { Client, OutOfMemory } from "../src/index.js";
 import { parseTrace } from "./trace.js";
 
 const [LOCAL, SERVER] = ["192.168.0.1:1000", "10.0.0.2:2000"];
@@ -22,10 +22,13 @@ export const HANDSHAKE = `udp ${LOCAL} ${SERVER} udp 4 sha1 auto 75736572 706173
 100000000 event
 `;
 
-/** A new client with the channel, and with more settings. */
+/** A new client with the channel, and with more settings. OutOfMemory. */
 export function boundClient(library, more = {}) {
     const { head, calls } = parseTrace(HANDSHAKE), client = new Client({ ...head, ...more }, library);
-    const last = calls.map((call) => answerTo(client, call)).slice(-3).join(", ");
+    const lines = calls.map((call) => answerTo(client, call)), last = lines.slice(-3).join(", ");
+    if (lines.includes("no memory")) {
+        throw new OutOfMemory();
+    }
     if (last !== "allocated udp 10.0.0.4:40000, permitted udp 10.0.0.3, bound udp 10.0.0.3:9000") {
         throw new Error(`the handshake ended with ${last}`);
     }

@@ -45,7 +45,10 @@ export function replay(library, text, makers = BY_OWN) {
         if (bad) {
             return `${bad}\n`;
         }
-        calls.forEach((call) => lines.push(answerTo(client, { ...call, isOwn: isOwn(head, call) }, makers)));
+        // As turn_replay, it ends where memory does.
+        for (let i = 0; i < calls.length && lines.at(-1) !== "no memory"; i++) {
+            lines.push(answerTo(client, { ...calls[i], isOwn: isOwn(head, calls[i]) }, makers));
+        }
     } catch (error) {
         if (client || error instanceof OutOfMemory) {
             lines.push(error instanceof OutOfMemory ? "no memory" : error.stack);
