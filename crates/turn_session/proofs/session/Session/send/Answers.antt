@@ -1,4 +1,4 @@
-use Rattle.std.proofs.Common.{◌≡◌, ◌∙◌, ◌≤◌, ◌&&◌, ℕ, Bool, true, false, not, Option, None, arith, refl, sym}
+use Rattle.std.proofs.Common.{◌≡◌, ◌∙◌, ◌≤◌, ◌&&◌, ℕ, Bool, true, false, not, Option, None, arith, length, refl, sym}
 use Rattle.std.proofs.lemmas.Bool.{and_parts, ltb-false}
 use Rattle.std.specs.Prelude.{if◌then◌else◌}
 use Rattle.std.specs.Option.{option_map_or}
@@ -38,5 +38,7 @@ permitted-fits is_ended transport ip s len may short udp =
 
 pub send_permitted-requires-clause-short : goal.send_permitted-requires-clause-short
 send_permitted-requires-clause-short g c = λ udp.
-    permitted-fits _ c.args.transport _ _ _ (sym c.have_permission.ensures ∙ c.if-have_permission.true)
-    (sym c.is_too_long.ensures ∙ c.if-is_too_long.false) udp
+    let short : length c.as_slice.result.now ≤ 65504 =
+    permitted-fits _ c.args.transport c.ip.result c.args.self.now.noted.client _ (sym c.have_permission.ensures ∙ c.if-have_permission.true)
+    (sym c.is_too_long.ensures ∙ c.if-is_too_long.false) udp in
+    rw (sym c.as_slice.ensures) short
