@@ -12,7 +12,7 @@ from .server import Server
 
 class Want(unittest.TestCase):
     def test_a_timer(self) -> None:
-        """Want of memory in a call leaves what is due: it is asked for again after 100 ms, and the relay is renewed as before."""
+        """A call without memory leaves what is due: it is requested again after 100 ms, and the relay is renewed as before."""
         for name in ("poll", "poll_transmit", "poll_event"):
             with self.subTest(call=name):
                 run(self.refused(name))

@@ -46,7 +46,7 @@ pub struct Course {
     pub failures: Failures,
     /// How far it has come.
     pub phase: Phase,
-    /// Whether the server was heard in this try, or over a stream connected.
+    /// Whether the server has responded in this try, or over a stream is connected.
     pub is_heard: bool,
     /// How many servers it has.
     pub servers: usize,
@@ -102,7 +102,7 @@ impl Course {
         }
     }
 
-    /// The server was heard, or over a stream connected. A try that is too short for it is followed by a longer one.
+    /// The server has responded, or over a stream is connected. A try that is too short for it is followed by a longer one.
     pub fn heard(&mut self)
         ensures { self.new ≡ after_sign self.old }
     {

@@ -51,7 +51,7 @@ impl Tries {
         self.due = self.due.max(now.plus(Duration::from_nanos(REST)));
     }
 
-    /// The try was over before the server, which was heard, granted an address: further ones last twice as long, up to 31.2 s.
+    /// The try was over before the server, which had responded, granted an address: further ones last twice as long, up to 31.2 s.
     pub fn too_slow(&mut self)
         ensures { self.new ≡ after_slow_try self.old }
     {
