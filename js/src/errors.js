@@ -29,7 +29,7 @@ export class YarrowdoorError extends Error {
     }
 }
 
-/** The module is not found, is none, or has stopped by a fault: `library`. After a fault no client of it can be used. */
+/** The module is not found, is not one, or was stopped by a fault: `library`. After a fault no client of it can be used. */
 export class LibraryError extends YarrowdoorError {
     /**
      * @param {string} message

@@ -5,7 +5,7 @@ import { putTime, timeAt } from "./time.js";
 
 /** @typedef {import("./time.js").Time} Time */
 /**
- * What takes time before the expiry of grants that are all to be refreshed at one time, beside their refreshes: an allocation counts
+ * What takes time before the expiry of grants that are all to be refreshed at one time, besides their refreshes: an allocation counts
  * as a grant, and so does each permission and each channel. `late` is how much too late a timer wakes the caller at most, and `delay`
  * how long the server's success takes at most, from when a request was made. `slots` packets are queued at most when the first refresh
  * is due, 1 by default, and `extras` are retransmissions, and requests that are made again, within `refreshAhead` at most, 0 by default.
@@ -15,10 +15,10 @@ import { putTime, timeAt } from "./time.js";
  */
 
 /**
- * How many grants are kept beside a load: none of that many is lost if the server answers, and one more may be. 0: there is room for
- * none. Infinity: there is no pause, and the caller is never late. A permission lasts 300 s and is refreshed after half of that at the
- * earliest, so that a `refreshAhead` over 150 s counts as 150 s; where the server grants an allocation for under 300 s, pass half of
- * that. TypeError and RangeError if a part of the load is none.
+ * How many grants a client keeps with this load: if the server answers, none of that many is lost, but one more may be. 0: there is
+ * room for none. Infinity: there is no pause, and the caller is never late. A permission lasts 300 s and is refreshed after half of
+ * that at the earliest, so that a `refreshAhead` over 150 s counts as 150 s; if the server grants an allocation for under 300 s, pass
+ * half of that. TypeError and RangeError for an invalid load.
  * @param {import("./library.js").Library} library
  * @param {Load} load
  */
@@ -31,8 +31,8 @@ export function keptGrants(library, load) {
 }
 
 /**
- * The longest `pause` with which `count` grants are kept beside a load, in milliseconds: 0 if only without a pause, and
- * undefined if they are too many even so. TypeError and RangeError if a part of the load is none, or the count.
+ * The longest `pause` with which a client keeps `count` grants with this load, in milliseconds: 0 if only without a pause, and
+ * undefined if they are too many even so. TypeError and RangeError for an invalid load or count.
  * @param {import("./library.js").Library} library
  * @param {number} count
  * @param {Load} load

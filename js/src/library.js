@@ -28,7 +28,7 @@ export class Library {
     /**
      * Compiles the module, by default that of the package. `source` is its bytes, a `WebAssembly.Module`, a `Response`, a URL, or the
      * text of one; in Node also the path of a file. Its memory has at most `memoryLimit` bytes (over 1 MB): a call for more fails with
-     * OutOfMemory. LibraryError if it is none.
+     * OutOfMemory. LibraryError if it is no such module.
      * @param {{ source?: import("./load.js").Source, memoryLimit?: number }} options
      * @returns {Promise<Library>}
      */

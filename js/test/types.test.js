@@ -1,14 +1,16 @@
-// The types of the package, as a program in TypeScript has them: what is right compiles, and what is wrong does not.
+// The types of the package, as a program in TypeScript has them: what is right compiles, and what is wrong does not. The reference
+// that is made of them shows all of them.
 //
 // Node's own types are those of Debian (nodejs), installed, or unpacked in YARROWDOOR_BUNDLERS.
 import assert from "node:assert/strict";
 import { execFile } from "node:child_process";
 import { existsSync } from "node:fs";
-import { cp, mkdtemp, rm, writeFile } from "node:fs/promises";
+import { cp, mkdtemp, readFile, rm, writeFile } from "node:fs/promises";
 import { tmpdir } from "node:os";
 import path from "node:path";
 import test, { after, before } from "node:test";
 import { fileURLToPath } from "node:url";
+import * as yarrowdoor from "../src/node/index.js";
 
 const JS = fileURLToPath(new URL("..", import.meta.url));
 const NODE = path.join(process.env.YARROWDOOR_BUNDLERS ?? "/", "usr/share/nodejs/@types"), PROGRAMS = ["use.ts", "wrong.ts"];
@@ -55,4 +57,19 @@ test("the same with Node's own types, and without those of browsers", { skip: sk
 test("the client without I/O needs no types of Node", { skip }, async () => {
     await writeFile(path.join(room, "checks/page.ts"), 'export { Client, Library, Poll, Settings } from "../types/index";\n');
     assert.deepEqual(await faultsOf(["checks/page.ts"], { lib: ["es2022", "dom"], types: [] }), []);
+});
+
+test("the reference shows each export and each call that README lists, and each of its links leads somewhere", { skip }, async () => {
+    await cp(path.join(JS, "package.json"), path.join(room, "package.json"));
+    const { status, stdout: page } = await run(path.join(JS, "../tools/draw/pages/declarations"), [room, "0.1.0"]);
+    assert.equal(status, 0);
+    const shown = new Set([...page.matchAll(/<section id="(.*?)"/g)].map(([, id]) => id));
+    assert.deepEqual(Object.keys(yarrowdoor).filter((name) => !shown.has(`yarrowdoor.${name}`)), []);
+    const links = [...page.matchAll(/href="#(.*?)"/g)].map(([, id]) => id);
+    assert.deepEqual(links.filter((id) => !shown.has(id)), []);
+    const readme = await readFile(path.join(JS, "README.md"), "utf8"), [, list] = readme.split("\nThe calls are\n");
+    const calls = [...list.split("\nFor `await using`")[0].matchAll(/`(\w+)\(/g)].map(([, name]) => name);
+    assert.ok(calls.includes("send") && calls.includes("close"));
+    const codes = [...page.matchAll(/<pre>(.*?)<\/pre>/gs)].map(([, code]) => code).join("\n");
+    assert.deepEqual(calls.filter((name) => !new RegExp(`(^ *|function )${name}\\(`, "m").test(codes)), []);
 });

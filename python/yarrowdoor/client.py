@@ -237,9 +237,9 @@ class Client:
         self._ask(now, c.TCP_CONNECT, peer=packed(peer))
 
     def allocated_tcp_socket(self, wanted: AllocateTcpSocket, local: Optional[AddressLike], now: int) -> None:
-        """Passes in the connection that `poll` asked for, by its local address, or None where there is none.
+        """Passes in the connection that `poll` asked for, by its local address, or None if there is none.
 
-        An event says that it is bound, or that it failed; there is none with None, nor where the connection ends before.
+        An event says that it is bound, or that it failed; there is none with None, nor if the connection ends before.
 
         `Refused`: `no-allocation` if no such connection is offered, `already-exists` if another has this address.
         """
@@ -262,7 +262,7 @@ class Client:
 
     def abandon(self, now: int) -> Optional[Packet]:
         """Gives up all allocations at once: the packet that deletes them at the server, past the pause and what is queued, or None
-        where there is none. The client has ended then: `poll` answers `Closed`. For a caller that closes its socket right away.
+        if there is none. The client has ended then: `poll` answers `Closed`. For a caller that closes its socket right away.
         `LibraryError` if the library for C is older than this call."""
         if not getattr(self._library, "has_abandon", True):
             raise LibraryError("the library for C is older than this package: it has no call to abandon allocations")

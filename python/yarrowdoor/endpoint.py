@@ -142,7 +142,7 @@ class RelayTransport(asyncio.DatagramTransport):
     def sendto(self, data: Any, addr: Optional[Any] = None) -> None:
         """Sends data to a peer, when it has a channel. If the server lets it have none, the data is dropped, and the protocol's
         `error_received` called, as for data that is too long. `ValueError` if there is no peer, one that is no IP address, or
-        another one than `remote_addr`; `TypeError` if the data is none."""
+        another one than `remote_addr`; `TypeError` if the data is not bytes."""
         if not isinstance(data, (bytes, bytearray, memoryview)):
             raise TypeError(f"data is bytes, a bytearray or a memoryview, and not {type(data).__name__}")
         peer = checked_peer(addr) if addr is not None else self._remote

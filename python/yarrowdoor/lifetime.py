@@ -183,8 +183,8 @@ class Lifetime(Opened):
         """Deletes the relayed address and closes all sockets, at once: one packet is sent, and no answer is waited for. Over UDP
         it is not sent again, so that the server may keep the address until it expires. For a program that cannot wait.
 
-        Where `open` is not done yet, it ends with an `AllocationFailed`, and what it was granted is given back beside, for up to
-        two seconds. It does nothing where the client was not opened, or has ended."""
+        If `open` is not done yet, it ends with an `AllocationFailed`, and what it was granted is deleted in the background, for up
+        to two seconds. It does nothing if the client was not opened, or has ended."""
         phase = self._phase
         if isinstance(phase, Connecting):
             self._phase = Failed(Ended("the client was closed"), None)

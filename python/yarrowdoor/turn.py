@@ -49,7 +49,7 @@ class TurnClient(Told, Lifetime):
     - `unsent`: packets to peers that the socket did not take. Losses further on are not counted.
     - `lost`: the last 1,024 permissions and channels that the server no longer renews, as `Lost`; `on_lost`, if it is set, is
       called with each.
-    - `on_error`, if it is set, is called with each error of a socket over UDP that does not end the client, as when a network goes.
+    - `on_error`, if it is set, is called with each error of a socket over UDP that does not end the client, such as a lost network.
 
     Entering it raises `AllocationFailed` if there is no relayed address, and `WrongCredentials` if that is because of user name or
     password. Both have `code` and `phrase`, what an error response said. Over TCP and TLS the connection comes before: the system

@@ -10,11 +10,11 @@ export interface RelayEvents {
     message: (data: Buffer, peer: RemoteInfo) => void;
     /** The relay has ended by itself. Without a listener it is thrown, unless a `for await` is under way, which has it. */
     error: (error: Ended) => void;
-    /** The relay has ended, by `close` or by itself. Nothing comes any more. */
+    /** The relay has ended, by `close` or by itself. Nothing follows. */
     close: () => void;
     /** The server no longer renews a permission or a channel. It may have been restarted. */
     lost: (lost: Lost) => void;
-    /** An error of a socket over UDP, which does not end the relay, as when a network goes. */
+    /** An error of a socket over UDP, which does not end the relay, such as a lost network. */
     socketError: (error: Error) => void;
     /**
      * A permitted peer has connected to the relayed address of a relay over TCP (RFC 6062). Without a listener up to 64 wait for one,

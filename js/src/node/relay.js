@@ -30,9 +30,9 @@ const MOST_LOST = 1_024;
  * - `message` (data, peer): a peer sent data, a Buffer. Without a listener it waits for `for await`.
  * - `error` (an `Ended`): the relay has ended by itself. As with all emitters it is thrown without a listener, unless a
  *   `for await` is under way, which has it.
- * - `close`: it has ended, by `close` or by itself. Nothing comes any more.
+ * - `close`: it has ended, by `close` or by itself. Nothing follows.
  * - `lost` (`{ what, ip }` or `{ what, peer }`): the server no longer renews a permission or a channel. It may have been restarted.
- * - `socketError` (an error): of a socket over UDP, which does not end the relay, as when a network goes.
+ * - `socketError` (an error): of a socket over UDP, which does not end the relay, such as a lost network.
  * - `connection` (a `PeerStream`): a permitted peer has connected, over TCP. Without a listener up to 64 wait for one.
  * - `drain`: the socket was full, so that `sendTo` dropped data, and is no longer.
  */
@@ -52,7 +52,7 @@ export class Relay extends Sending {
     #count = -1;
 
     /**
-     * Connects to the server, and waits for a relayed address. TypeError and RangeError for options that are none; AllocationFailed
+     * Connects to the server, and waits for a relayed address. TypeError and RangeError for invalid options; AllocationFailed
      * if there is no relayed address, and WrongCredentials if that is for user name or password; the reason of `signal`, after
      * which what the server may have granted is deleted.
      * @param {import("./options.js").RelayOptions} options

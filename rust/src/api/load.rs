@@ -5,7 +5,7 @@ use crate::convert::{cadence_code, nanos_of};
 use crate::sys;
 use std::time::Duration;
 
-/// What takes time before the expiry of grants that are all to be refreshed at one time, beside their refreshes. An allocation
+/// What takes time before the expiry of grants that are all to be refreshed at one time, besides their refreshes. An allocation
 /// counts as a grant, and so does each permission and each channel.
 #[derive(Clone, Copy, Debug, Default, PartialEq, Eq, Hash)]
 pub struct Load {
@@ -61,7 +61,7 @@ impl TurnConfig {
         sys::yarrowdoor_kept_grants(&load.into(), cadence_code(cadence), nanos_of(ahead))
     }
 
-    /// The longest [`request_cadence`](Self::request_cadence) at which `count` grants are kept beside this load, each refreshed by
+    /// The longest [`request_cadence`](Self::request_cadence) at which `count` grants are kept with this load, each refreshed by
     /// the [`refresh_ahead`](Self::refresh_ahead) of this configuration. `None` if they are too many for any. No grant is taken
     /// as one.
     #[must_use]

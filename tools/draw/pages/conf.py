@@ -22,6 +22,10 @@ html_theme_options = {
 html_sidebars = {"**": ["about.html", "searchbox.html", "localtoc.html"]}
 html_last_updated_fmt = None
 html_show_sphinx = False
+# The theme reads custom.css from there.
+html_static_path = ["custom.css"]
+# A page that is opened as a file may not read another one.
+html_show_search_summary = False
 # The package has no links to other projects' pages.
 nitpicky = False
 
