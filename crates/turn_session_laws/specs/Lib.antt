@@ -1,2 +1,4 @@
 pub mod EndLaws
+pub mod EventLaws
+pub mod OutcomeLaws
 pub mod RequestLaws
