@@ -1,0 +1,11 @@
+//! Laws of data of peers.
+
+ghost use Rattle.turn_session_laws.specs.DataLaws.{DataIsTheClients};
+
+/// Data of peers is the client's. A packet for a peer is the one that the client makes, and ChannelData is answered as the client
+/// answers it: it changes the client and when something was received last, and nothing else is noted of it. Over a stream a message
+/// may follow ChannelData in what is received at a time: this is about bytes of which the client says that they are data, or ignores
+/// them.
+pub fn data_is_the_clients()
+    ensures { DataIsTheClients }
+{}
