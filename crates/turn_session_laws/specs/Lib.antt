@@ -1,3 +1,4 @@
+pub mod CauseLaws
 pub mod DataLaws
 pub mod EndLaws
 pub mod EventLaws

@@ -6,6 +6,7 @@
 //!  refusals_are_accepted    a refusal is that of an error response that the client has accepted
 //!  few_unsent               while eight requests are queued, none of the caller is made
 //!  one_outcome              each ticket has one outcome
+//!  ends_have_causes         an end has a cause, and the first one stays
 //!  over_is_last             the end is reported once, and nothing after it
 //!  nothing_follows_the_end  no call changes a session that has ended
 //!  leaves_in_time           a session that leaves has ended once its wait is over
@@ -13,12 +14,14 @@
 //! ```
 #![tactic(auto)]
 
+mod causes;
 mod ends;
 mod events;
 mod outcomes;
 mod payloads;
 mod requests;
 
+pub use causes::ends_have_causes;
 pub use ends::{leaves_in_time, nothing_follows_the_end, over_is_last};
 pub use events::granted_by_event;
 pub use outcomes::one_outcome;
