@@ -2,7 +2,7 @@
 
 ghost use Rattle.std.specs.Prelude.{◌≡◌, ◌<◌};
 ghost use Rattle.turn_relay_course.specs.Course.{after_failure, after_leaving, after_ready, after_restoring, after_sign, begin_step, begun_try, due_time};
-ghost use Rattle.turn_relay_course.specs.Course.{ends_by, ends_in, gone_down, is_late, new_course, next_server, opened_course, phase_after, tries_after};
+ghost use Rattle.turn_relay_course.specs.Course.{ends_by, ends_in, gone_down, is_due, is_late, new_course, next_server, opened_course, phase_after, tries_after};
 
 use crate::reopen::Reopen;
 use std::time::Duration;
@@ -73,11 +73,18 @@ impl Course {
         }
     }
 
+    /// Whether the next try is due.
+    pub fn is_due(&self, now: Instant) -> bool
+        ensures { result ≡ is_due now self.now }
+    {
+        matches!(self.phase, Phase::Resting) && self.tries.due <= now
+    }
+
     /// Begins a try, if one is due. Returns whether it has begun: then the caller is to be asked for user name and password.
     pub fn begin(&mut self, now: Instant) -> bool
         ensures { (result, self.new) ≡ begin_step now self.old }
     {
-        if !matches!(self.phase, Phase::Resting) || now < self.tries.due {
+        if !self.is_due(now) {
             return false;
         }
         self.begin_try(now);

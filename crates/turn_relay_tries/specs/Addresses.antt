@@ -1,5 +1,5 @@
 -- In which order the addresses of a server are attempted (RFC 8305, section 4).
-use Rattle.std.specs.Prelude.{if◌then◌else◌, List, [], ◌∷◌, ◌++◌, drop, slice_get, Option, Some, None}
+use Rattle.std.specs.Prelude.{ℕ, ◌+◌, ◌-◌, ◌^◌, min, length, if◌then◌else◌, List, [], ◌∷◌, ◌++◌, drop, slice_get, Option, Some, None}
 use Rattle.std.specs.List.{list_any}
 use Rattle.std.specs.declared.net.socket_addr.SocketAddr.{SocketAddr}
 use Rattle.std.specs.declared.net.socket_addr.SocketAddr.TheVariants.{V4, V6}
@@ -23,6 +23,10 @@ turn_after family (Some first) = Some first
 abbrev pub added : SocketAddr → AddressesState → AddressesState
 added (V4 a) s = record s { v4 = with_address (V4 a) s.v4; turn = turn_after IPV4 s.turn }
 added (V6 a) s = record s { v6 = with_address (V6 a) s.v6; turn = turn_after IPV6 s.turn }
+
+-- at most as many as are counted
+abbrev pub addresses_left : AddressesState → ℕ
+addresses_left s = min (length s.v4 + length s.v6) (2 ^ 64 - 1)
 
 -- the first of a family, and then it is the other one's turn
 abbrev pub taken_v4 : AddressesState → Option SocketAddr × AddressesState

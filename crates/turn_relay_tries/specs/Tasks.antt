@@ -16,7 +16,7 @@ new_task work deadline number =
 -- a task has the next number, and stands behind the others
 abbrev pub added : Work → ℕ → TasksState → TasksState
 added work deadline s =
-    record { rows = s.rows ++ new_task work deadline s.next ∷ []; next = (s.next + 1) % 2 ^ 32 }
+    record { rows = s.rows ++ new_task work deadline s.next ∷ []; next = (s.next + 1) % 2 ^ 64 }
 
 -- ---- what is given
 
@@ -59,9 +59,6 @@ is_late_at now row = not (nat_lt now row.deadline)
 
 abbrev pub late_task : ℕ → TasksState → Option Task
 late_task now s = option_map task_in (find (is_late_at now) s.rows)
-
-abbrev pub after_late : ℕ → TasksState → TasksState
-after_late now s = record s { rows = without_first (is_late_at now) s.rows }
 
 abbrev pub withdrawn : TasksState → TasksState
 withdrawn s = record s { rows = [] }

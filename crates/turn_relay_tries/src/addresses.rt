@@ -3,7 +3,7 @@
 ghost use Rattle.std.specs.Prelude.{◌≡◌, [], OnErr, OnOk};
 ghost use Rattle.std.specs.List.{list_any};
 ghost use Rattle.turn_session_book.specs.Keys.{same_peer};
-ghost use Rattle.turn_relay_tries.specs.Addresses.{added, next_address, no_addresses, taken_v4, taken_v6, turn_after, with_address};
+ghost use Rattle.turn_relay_tries.specs.Addresses.{added, addresses_left, next_address, no_addresses, taken_v4, taken_v6, turn_after, with_address};
 
 use std::alloc::{AllocError, Global};
 use std::collections::VecDeque;
@@ -60,6 +60,22 @@ impl Addresses {
             }
         }
         Ok(())
+    }
+
+    /// How many there are.
+    pub fn len(&self) -> usize
+        ensures { result ≡ addresses_left self.now }
+    {
+        self.v4.len().saturating_add(self.v6.len())
+    }
+
+    /// Removes all of them.
+    pub fn clear(&mut self)
+        ensures { self.new ≡ no_addresses }
+    {
+        self.v4.clear();
+        self.v6.clear();
+        self.turn = None;
     }
 
     /// The address that is attempted next: of the other family than the one before it, if there is one left.

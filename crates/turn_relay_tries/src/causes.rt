@@ -1,7 +1,6 @@
 //! Why a relay has no address.
 
 use crate::tasks::Work;
-use std::time::Duration;
 use turn_session_book::causes::Why;
 use turn_session_book::tags::Tag;
 
@@ -16,8 +15,8 @@ pub enum Cause {
     NotResolved(Tag),
     /// There was no connection to any address of the server.
     NotConnected,
-    /// The try lasted for this long, and there was no relayed address.
-    TooSlow(Duration),
+    /// The try lasted for this many nanoseconds, and there was no relayed address.
+    TooSlow(u64),
     /// The caller did not answer this task in time.
     NotDone(Work),
     /// What the caller passed in is of no use, as user name or password with characters that are not permitted: the caller's number of

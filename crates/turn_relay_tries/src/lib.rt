@@ -7,7 +7,7 @@
 //!  a server's addresses   -- add --------> Addresses  -- take_next -> in which order they are attempted
 //!                         -- poll -------> Attempts   --------------> when the next attempt begins
 //!  another server         -- follow -----> Redirects  --------------> whether it is asked
-//!  what the caller does   -- add --------> Tasks      -- take_late -> which of it has failed
+//!  what the caller does   -- add --------> Tasks      -- late ------> which of it has failed
 //!  what a session had     -- want -------> Wanted     -- ask_next --> what the next one is asked for
 //! ```
 //!

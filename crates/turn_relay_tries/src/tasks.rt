@@ -2,7 +2,7 @@
 
 ghost use Rattle.std.specs.Prelude.{◌≡◌, [], IfOk, OnErr, OnOk};
 ghost use Rattle.std.specs.List.{position};
-ghost use Rattle.turn_relay_tries.specs.Tasks.{added, after_end, after_giving, after_late, deadline_of, is_given_as, is_late_at, is_new, late_task, next_task, no_tasks, sooner_of, withdrawn, work_of};
+ghost use Rattle.turn_relay_tries.specs.Tasks.{added, after_end, after_giving, deadline_of, is_given_as, is_late_at, is_new, late_task, next_task, no_tasks, sooner_of, withdrawn, work_of};
 
 use std::alloc::{AllocError, Global};
 use std::marker::Model;
@@ -16,15 +16,28 @@ pub enum Work {
     Credentials,
     /// Look up the addresses of the server at this place of the list.
     Resolve(usize),
-    /// Open a socket to this address of the server, from a new local port.
-    Socket(SocketAddr),
+    /// Open a socket for this attempt, from a new local port. The number of the task is then that of the socket.
+    Socket(Attempt),
+    /// Close the socket that has the number of this task. This is not answered.
+    Close,
+}
+
+/// An attempt with an address of a server.
+#[derive(Clone, Copy, Debug, PartialEq, Eq)]
+pub struct Attempt {
+    /// The place of the server in the list.
+    pub server: usize,
+    /// The place of the address among those of the server, in the order in which they are attempted.
+    pub place: usize,
+    /// The address.
+    pub to: SocketAddr,
 }
 
 /// A task of the caller.
 #[derive(Clone, Copy, Debug, PartialEq, Eq)]
 pub struct Task {
     /// The number by which it is answered.
-    pub number: u32,
+    pub number: u64,
     /// What is to be done.
     pub work: Work,
 }
@@ -45,7 +58,7 @@ pub struct OpenTask {
 #[derive(Debug, Drop)]
 pub struct Tasks {
     rows: Vec<OpenTask>,
-    next: u32,
+    next: u64,
 }
 
 impl Model for Tasks {
@@ -67,12 +80,12 @@ impl Tasks {
         }
     }
 
-    /// Sets a task, which is to be answered by this time. Returns its number.
+    /// Sets a task, which is to be answered by this time. Returns its number: no task before it had the same one, up to 2^64 tasks.
     ///
     /// # Errors
     ///
     /// If memory allocation fails. Nothing changes then.
-    pub fn add(&mut self, work: Work, deadline: Instant) -> Result<u32, AllocError>
+    pub fn add(&mut self, work: Work, deadline: Instant) -> Result<u64, AllocError>
         ensures number { IfOk result (λ number. number ≡ self.old.next) }
         ensures ok { OnOk result (self.new ≡ added work deadline self.old) }
         ensures err { OnErr result (self.new ≡ self.old) }
@@ -108,7 +121,7 @@ impl Tasks {
 
     /// What the task with this number is for, if it was given and has no answer yet. `None` if it was answered before, is late, was
     /// withdrawn, or was never given: the caller's answer is then to be refused.
-    pub fn work_of(&self, number: u32) -> Option<Work>
+    pub fn work_of(&self, number: u64) -> Option<Work>
         ensures { result ≡ work_of number self.now }
     {
         match self.place_of(number) {
@@ -118,7 +131,7 @@ impl Tasks {
     }
 
     /// The task with this number is answered.
-    pub fn end(&mut self, number: u32)
+    pub fn end(&mut self, number: u64)
         ensures { self.new ≡ after_end number self.old }
     {
         if let Some(place) = self.place_of(number) {
@@ -126,16 +139,12 @@ impl Tasks {
         }
     }
 
-    /// The oldest task that should have been answered by now. It is withdrawn.
-    pub fn take_late(&mut self, now: Instant) -> Option<Task>
-        ensures task { result ≡ late_task now self.old }
-        ensures after { self.new ≡ after_late now self.old }
+    /// The oldest task that should have been answered by now.
+    pub fn late(&self, now: Instant) -> Option<Task>
+        ensures { result ≡ late_task now self.now }
     {
         match self.late_place(now) {
-            Some(place) => {
-                let late = self.rows.remove(place);
-                Some(late.task)
-            }
+            Some(place) => Some(self.rows[place].task),
             None => None,
         }
     }
@@ -164,7 +173,7 @@ impl Tasks {
     }
 
     /// The place of the task with this number, if it was given.
-    fn place_of(&self, number: u32) -> Option<usize>
+    fn place_of(&self, number: u64) -> Option<usize>
         ensures { result ≡ position (is_given_as number) self.now.rows }
     {
         self.rows
@@ -181,7 +190,7 @@ impl Tasks {
 }
 
 /// The sooner of a time, if there is one, and another one.
-fn sooner_of(due: Option<Instant>, time: Instant) -> Option<Instant>
+pub fn sooner_of(due: Option<Instant>, time: Instant) -> Option<Instant>
     ensures { result ≡ sooner_of due time }
 {
     match due {
