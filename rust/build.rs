@@ -9,6 +9,7 @@ use std::env;
 use std::mem;
 use std::path::{Path, PathBuf};
 use std::process::Command;
+use std::slice;
 
 const ARCHIVE: &str = "libyarrowdoor.a";
 
@@ -50,12 +51,13 @@ pub(crate) fn instructions(
     ask: impl FnOnce() -> Option<String>,
 ) -> Vec<String> {
     // no other library than the one that was asked for
-    let folders = named.map_or(built, std::slice::from_ref);
-    // they are looked at again once there is one
-    let watched = |folder: &PathBuf| format!("rerun-if-changed={}", folder.join(ARCHIVE).display());
-    let mut lines: Vec<String> = folders.iter().map(watched).collect();
-    let mut folders = folders.iter();
-    if let Some(folder) = folders.find(|folder| folder.join(ARCHIVE).exists()) {
+    let folders = named.map_or(built, slice::from_ref);
+    let found = folders.iter().find(|it| it.join(ARCHIVE).exists());
+    // Where there is none, all are looked at again. Cargo takes a file that is missing for one that has changed, and compiles anew.
+    let watched = found.map_or(folders, slice::from_ref);
+    let line = |folder: &PathBuf| format!("rerun-if-changed={}", folder.join(ARCHIVE).display());
+    let mut lines: Vec<String> = watched.iter().map(line).collect();
+    if let Some(folder) = found {
         lines.push(format!("rustc-link-search=native={}", folder.display()));
         lines.push("rustc-link-lib=static=yarrowdoor".to_owned());
     } else if let Some(folder) = named {

@@ -145,3 +145,21 @@ fn the_file_is_watched() {
     );
     assert!(lines.contains(&watched));
 }
+
+// Cargo takes a file that is missing for one that has changed: each build of a program over a tarball would compile the package anew.
+#[test]
+fn only_the_file_that_was_found_is_watched() {
+    let (built, packed) = (folder("built_9", false), folder("packed_9", true));
+    let lines = build::instructions(None, &[built, packed.clone()], || None);
+    let watched = format!(
+        "rerun-if-changed={}",
+        packed.join("libyarrowdoor.a").display()
+    );
+    assert_eq!(
+        lines
+            .iter()
+            .filter(|it| it.starts_with("rerun-if-changed="))
+            .collect::<Vec<_>>(),
+        [&watched]
+    );
+}
