@@ -216,7 +216,7 @@ class Killed(unittest.TestCase):
 @contextlib.contextmanager
 def wanting_a_certificate(room: str) -> Iterator[Tuple[int, str]]:
     """A server of TLS that ends each connection, since the client has no certificate: its port, and its certificate."""
-    files = turn_servers.make_certificate(room, "localhost")
+    files = turn_servers.make_certificate(room, "127.0.0.1")
     context = ssl.SSLContext(ssl.PROTOCOL_TLS_SERVER)
     context.load_cert_chain(*files)
     context.load_verify_locations(files[0])
@@ -243,7 +243,7 @@ class Handshake(unittest.TestCase):
     def test_one_that_breaks_after_its_end_is_a_step(self) -> None:
         with tempfile.TemporaryDirectory() as room, wanting_a_certificate(room) as (port, certificate):
             for _ in range(3):  # The alert comes before the certificate is read, or after it.
-                status, found = json_of(f"turns:localhost:{port}", "--ca", certificate)
+                status, found = json_of(f"turns:127.0.0.1:{port}", "--ca", certificate)
                 self.assertEqual((status, found["steps"][-1]["name"], found["steps"][-1]["outcome"]), (1, "tls", "failed"))
                 self.assertNotIn("error", found)
 

@@ -142,10 +142,11 @@ def fast(rate: float) -> Clock:
 
 
 def make_certificate(room: str, name: str, days: int = 2) -> List[str]:
-    """A certificate for this name that signs itself, and its key: the names of two files. With no days it is out of date."""
+    """A certificate for this name or IPv4 address that signs itself, and its key: two files. With no days it is out of date."""
     files = [os.path.join(room, f"{name}-{it}.pem") for it in ("cert", "key")]
     request, extensions = os.path.join(room, "request.pem"), os.path.join(room, "extensions")
-    pathlib.Path(extensions).write_text(f"subjectAltName=DNS:{name}\n")
+    kind = "IP" if name.replace(".", "").isdigit() else "DNS"
+    pathlib.Path(extensions).write_text(f"subjectAltName={kind}:{name}\n")
     make = ["openssl", "req", "-new", "-newkey", "rsa:2048", "-nodes", "-subj", f"/CN={name}", "-out", request, "-keyout", files[1]]
     sign = ["openssl", "x509", "-req", "-in", request, "-signkey", files[1], "-out", files[0], "-days", str(days),
             "-extfile", extensions]
