@@ -25,9 +25,9 @@ is_kept_held key held = option_map_or (λ g. g.is_kept) (find (is_of key) held) 
 abbrev pub held_grant : Key → Bool → HeldGrant
 held_grant key is_kept = record { key = key; is_kept = is_kept }
 
--- a new grant is kept
-abbrev pub after_grant : Key → List HeldGrant → List HeldGrant
-after_grant key held = if is_held key held then held else held ++ held_grant key true ∷ []
+-- a new grant is kept or not, and one that was granted before stays as it is
+abbrev pub after_grant : Key → Bool → List HeldGrant → List HeldGrant
+after_grant key is_kept held = if is_held key held then held else held ++ held_grant key is_kept ∷ []
 
 abbrev pub marked : Bool → HeldGrant → HeldGrant
 marked is_kept g = record g { is_kept = is_kept }

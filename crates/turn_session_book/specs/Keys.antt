@@ -26,6 +26,12 @@ same_key (Channel a) (Channel b) = same_peer a b
 same_key (Connect a) (Connect b) = same_peer a b
 same_key _ _ = false
 
+-- the permission of its IP address, which a channel needs too (RFC 8656, section 12), and a data connection (RFC 6062, section 4.3)
+abbrev pub permission_for : Key → Key
+permission_for (Permission ip) = Permission ip
+permission_for (Channel peer) = Permission (socket_ip peer)
+permission_for (Connect peer) = Permission (socket_ip peer)
+
 -- a client has at most one allocation of each family, and a peer is reached by that of its own (RFC 8656, section 3)
 abbrev pub family_of_key : Key → AddressFamily
 family_of_key (Permission ip) = family_of_ip ip

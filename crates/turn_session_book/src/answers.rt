@@ -49,8 +49,10 @@ pub enum Outcome {
     TimedOut(Option<ErrorReply>),
     /// The client could not make the request.
     NotMade(CallError),
-    /// The caller could not open the data connection for it, or it was closed before the server had bound it.
+    /// The caller could not open the data connection for it, or reported that it was closed before the server had bound it.
     NotOpened(Tag),
+    /// The data connection for it was closed before the server had bound it, and the caller has not reported that.
+    NotBound,
     /// The session ended first.
     Ended(Why),
 }

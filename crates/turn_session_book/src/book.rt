@@ -1,17 +1,21 @@
 //! What a session notes of its requests and of what was granted.
 
 ghost use Rattle.std.specs.Prelude.{◌≡◌, OnErr, OnOk};
-ghost use Rattle.turn_session_book.specs.Book.{after_connection, after_failure, after_grant, after_report, after_settlement, new_book, relayed_event};
+ghost use Rattle.turn_session_book.specs.Book.{after_binding, after_denial, after_failure, after_grant, after_report};
+ghost use Rattle.turn_session_book.specs.Book.{after_settlement, new_book, relayed_event};
 
+mod connections;
 mod reports;
 mod rows;
 
 use crate::answers::Outcome;
-use crate::book::reports::{report, report_end, report_failure, report_outcome, rest};
+use crate::book::reports::{
+    failure_outcome, report, report_end, report_failure, report_outcome, rest,
+};
 use crate::events::Event;
 use crate::held::Held;
-use crate::keys::Key;
-use crate::open_requests::OpenRequests;
+use crate::keys::{Key, permission_for};
+use crate::open_requests::{OpenRequest, OpenRequests, Progress};
 use crate::replies::ErrorReply;
 use crate::rests::Rests;
 use std::alloc::{AllocError, Global};
@@ -66,7 +70,8 @@ impl Book {
         Ok(())
     }
 
-    /// The server granted this key: its request has its outcome, and its rest is forgotten.
+    /// The server granted this key: its request has its outcome, one that awaits it goes on, and its rest is forgotten. The grant
+    /// is kept, unless it was let go before.
     ///
     /// # Errors
     ///
@@ -76,30 +81,38 @@ impl Book {
         ensures err { OnErr result (self.new ≡ self.old) }
     {
         self.events.reserve(1)?;
-        self.held.granted(key)?;
+        let is_kept = self.is_kept_after(key);
+        self.held.granted(key, is_kept)?;
         let request = self.requests.settle(key);
         report_outcome(&mut self.events, request, key, Outcome::Granted);
+        self.requests.resume(key);
         self.rests.forgive(key);
         Ok(())
     }
 
-    /// The data connection for this key is bound: its request has its outcome, and its rest is forgotten. Nothing is renewed for
-    /// it.
+    /// The server has bound the channel to this peer. If it was requested and the peer's IP address is permitted, the request has
+    /// its outcome; if that is not permitted, the permission is to be requested for it.
     ///
     /// # Errors
     ///
     /// If memory allocation fails. Nothing changes then.
-    pub fn connected(&mut self, key: Key) -> Result<(), AllocError>
-        ensures ok { OnOk result (self.new ≡ after_connection key self.old) }
+    pub fn bound(&mut self, peer: SocketAddr) -> Result<(), AllocError>
+        ensures ok { OnOk result (self.new ≡ after_binding peer self.old) }
         ensures err { OnErr result (self.new ≡ self.old) }
     {
-        self.settled(key, Outcome::Granted)?;
+        let key = Key::Channel(peer);
+        if self.held.is_held(permission_for(key)) {
+            return self.granted(key);
+        }
+        let is_kept = self.is_kept_after(key);
+        self.held.granted(key, is_kept)?;
+        self.requests.advance(key, Progress::Unpermitted);
         self.rests.forgive(key);
         Ok(())
     }
 
     /// The server refused this key, by this error, or with `None` it did not answer in time. A grant of it has ended, a request for
-    /// it has its outcome, and what was requested rests.
+    /// it has its outcome, one that awaits it is denied, and what was requested rests.
     ///
     /// # Errors
     ///
@@ -114,12 +127,30 @@ impl Book {
         ensures err { OnErr result (self.new ≡ self.old) }
     {
         self.events.reserve(2)?;
-        let requested = self.requests.request_of(key).is_some();
+        let requested = self.is_requested(key);
         rest(&mut self.rests, requested, key, error, now)?;
         let kept = self.held.ended(key);
         report_end(&mut self.events, kept, key, error);
         let request = self.requests.settle(key);
         report_failure(&mut self.events, request, key, error);
+        self.requests.deny(key, error);
+        Ok(())
+    }
+
+    /// The permission for this request was refused, which is its outcome, and its key rests. A channel stays bound.
+    ///
+    /// # Errors
+    ///
+    /// If memory allocation fails. Nothing changes then.
+    pub fn denied(&mut self, request: OpenRequest, now: Instant) -> Result<(), AllocError>
+        ensures ok { OnOk result (self.new ≡ after_denial request now self.old) }
+        ensures err { OnErr result (self.new ≡ self.old) }
+    {
+        self.events.reserve(1)?;
+        rest(&mut self.rests, true, request.key, request.error, now)?;
+        let settled = self.requests.settle(request.key);
+        let outcome = failure_outcome(request.error, None);
+        report_outcome(&mut self.events, settled, request.key, outcome);
         Ok(())
     }
 

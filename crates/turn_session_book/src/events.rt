@@ -21,7 +21,8 @@ pub enum Event {
     FamilyFailed(AddressFamily, Option<ErrorReply>),
     /// The session is about to end for this cause, and deletes its allocation. `Over` follows.
     Ending(Why),
-    /// The outcome of the request with this ticket and key.
+    /// The outcome of the request with this ticket and key. A channel that is bound while the IP address of its peer is not
+    /// permitted has that of the permission, which is requested for it then.
     Outcome(u32, Key, Outcome),
     /// A grant that was kept has ended: what became of the request to renew it.
     Lost(Key, Outcome),

@@ -44,6 +44,13 @@ impl Held {
         }
     }
 
+    /// What was granted, in the order in which it was.
+    pub fn as_slice(&self) -> &[HeldGrant]
+        ensures { result.now ≡ self.now }
+    {
+        &self.grants
+    }
+
     /// Whether this key was granted.
     pub fn is_held(&self, key: Key) -> bool
         ensures { result ≡ is_held key self.now }
@@ -61,20 +68,20 @@ impl Held {
         }
     }
 
-    /// The server has granted this key. The caller keeps it, unless it was granted before.
+    /// The server has granted this key, which the caller keeps or has let go. One that was granted before stays as it is.
     ///
     /// # Errors
     ///
     /// If memory allocation fails. Nothing changes then.
-    pub fn granted(&mut self, key: Key) -> Result<(), AllocError>
-        ensures ok { OnOk result (self.new ≡ after_grant key self.old) }
+    pub fn granted(&mut self, key: Key, is_kept: bool) -> Result<(), AllocError>
+        ensures ok { OnOk result (self.new ≡ after_grant key is_kept self.old) }
         ensures err { OnErr result (self.new ≡ self.old) }
     {
         if self.is_held(key) {
             return Ok(());
         }
         self.grants.reserve(1)?;
-        self.grants.push_reserved(HeldGrant { key, is_kept: true });
+        self.grants.push_reserved(HeldGrant { key, is_kept });
         Ok(())
     }
 

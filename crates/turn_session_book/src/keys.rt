@@ -2,7 +2,7 @@
 
 ghost use Rattle.std.specs.Prelude.{◌≡◌};
 ghost use Rattle.turn_session_book.specs.Addresses.{family_of_ip, same_family};
-ghost use Rattle.turn_session_book.specs.Keys.{family_of_key, is_in};
+ghost use Rattle.turn_session_book.specs.Keys.{family_of_key, is_in, permission_for};
 
 use std::net::{IpAddr, SocketAddr};
 use turn_types::AddressFamily;
@@ -28,6 +28,17 @@ impl Key {
             Key::Channel(peer) => family_of(peer.ip()),
             Key::Connect(peer) => family_of(peer.ip()),
         }
+    }
+}
+
+/// The permission for the IP address of the peer, which a channel needs too (RFC 8656, section 12), and a data connection (RFC
+/// 6062, section 4.3).
+pub fn permission_for(key: Key) -> Key
+    ensures { result ≡ permission_for key }
+{
+    match key {
+        Key::Permission(ip) => Key::Permission(ip),
+        Key::Channel(peer) | Key::Connect(peer) => Key::Permission(peer.ip()),
     }
 }
 

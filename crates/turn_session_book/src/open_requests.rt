@@ -2,15 +2,18 @@
 
 ghost use Rattle.std.specs.Prelude.{◌≡◌, [], IfOk, IsOk, IsSome, OnErr, OnOk, slice_get};
 ghost use Rattle.std.specs.List.{position};
-ghost use Rattle.turn_session_book.specs.OpenRequests.{after_request, first_made, first_waiting, is_for, is_made_in, is_waiting, request_for, ticket_for, without_last, without_oldest};
-ghost use Rattle.turn_session_book.specs.OpenRequests.{with_hint, with_progress, without_request};
+ghost use Rattle.turn_session_book.specs.OpenRequests.{after_request, is_for, request_for, ticket_for, without_last};
+ghost use Rattle.turn_session_book.specs.OpenRequests.{without_oldest, without_request};
 
-use crate::keys::{Key, is_in};
+mod advancing;
+mod finding;
+
+use crate::keys::Key;
 use crate::replies::ErrorReply;
 use std::alloc::{AllocError, Global};
 use std::marker::Model;
+use std::net::SocketAddr;
 use turn_stun::instant::Instant;
-use turn_types::AddressFamily;
 
 /// How far a request has come.
 #[derive(Clone, Copy, Debug, PartialEq, Eq)]
@@ -21,6 +24,16 @@ pub enum Progress {
     Queued,
     /// The client has sent it. Without an outcome by this time it has timed out.
     Sent(Instant),
+    /// The data connection for it is open from this local address, and the server has not bound it yet (RFC 6062, section 4.3).
+    Opened(SocketAddr),
+    /// That data connection is closed, and nothing of the client will say so.
+    Closed,
+    /// The IP address of its peer is not permitted: that permission is to be requested first.
+    Unpermitted,
+    /// That permission is requested.
+    Permitting,
+    /// That permission was refused, by the error of the request, or without one its request was not answered.
+    Denied,
 }
 
 /// A request of the caller that has no outcome yet.
@@ -32,7 +45,14 @@ pub struct OpenRequest {
     pub key: Key,
     /// How far it has come.
     pub progress: Progress,
-    /// The last error response to it that the client ignored.
+    /// Whether the caller keeps what it requests, once that is granted.
+    pub is_kept: bool,
+    /// Whether the caller keeps the permission that is requested for it.
+    pub keeps_permission: bool,
+    /// Whether it is made for the second time, since the data connection of the first one was closed before the server had bound
+    /// it.
+    pub is_repeated: bool,
+    /// The last error response to it that the client ignored, or that by which its permission was refused.
     pub error: Option<ErrorReply>,
 }
 
@@ -95,6 +115,9 @@ impl OpenRequests {
             ticket,
             key,
             progress,
+            is_kept: true,
+            keeps_permission: true,
+            is_repeated: false,
             error: None,
         });
         Ok(ticket)
@@ -131,81 +154,10 @@ impl OpenRequests {
         Some(oldest)
     }
 
-    /// The first request that waits.
-    pub fn first_waiting(&self) -> Option<OpenRequest>
-        ensures { result ≡ first_waiting self.now }
-    {
-        match self.waiting_place() {
-            Some(place) => Some(self.requests[place]),
-            None => None,
-        }
-    }
-
-    /// The first request in an allocation of this family that does not wait.
-    pub fn first_made(&self, family: AddressFamily) -> Option<OpenRequest>
-        ensures { result ≡ first_made family self.now }
-    {
-        match self.made_place(family) {
-            Some(place) => Some(self.requests[place]),
-            None => None,
-        }
-    }
-
-    /// The request for this key has come so far.
-    pub fn advance(&mut self, key: Key, progress: Progress)
-        ensures { self.new ≡ with_progress key progress self.old }
-    {
-        if let Some(place) = self.place_of(key) {
-            let request = self.requests[place];
-            self.requests[place] = OpenRequest {
-                progress,
-                ..request
-            };
-        }
-    }
-
-    /// The client ignored this error response to the request for this key.
-    pub fn hint(&mut self, key: Key, error: ErrorReply)
-        ensures { self.new ≡ with_hint key error self.old }
-    {
-        if let Some(place) = self.place_of(key) {
-            let request = self.requests[place];
-            self.requests[place] = OpenRequest {
-                error: Some(error),
-                ..request
-            };
-        }
-    }
-
-    /// The place of the first request that waits.
-    fn waiting_place(&self) -> Option<usize>
-        ensures { result ≡ position (λ r. is_waiting r.progress) self.now }
-    {
-        self.requests
-            .iter()
-            .position(|request| matches!(request.progress, Progress::Waiting))
-    }
-
-    /// The place of the first request in an allocation of this family that does not wait.
-    fn made_place(&self, family: AddressFamily) -> Option<usize>
-        ensures { result ≡ position (is_made_in family) self.now }
-    {
-        self.requests
-            .iter()
-            .position(|request| is_made_in(family, request))
-    }
-
     /// The place of the request for this key.
     fn place_of(&self, key: Key) -> Option<usize>
         ensures { result ≡ position (is_for key) self.now }
     {
         self.requests.iter().position(|request| request.key == key)
     }
-}
-
-/// Whether the request is in an allocation of this family, and does not wait.
-fn is_made_in(family: AddressFamily, request: &OpenRequest) -> bool
-    ensures { result ≡ is_made_in family request.now }
-{
-    !matches!(request.progress, Progress::Waiting) && is_in(family, request.key)
 }

@@ -89,7 +89,7 @@ fn lost_outcome(error: Option<ErrorReply>) -> Outcome
 }
 
 /// Refused by this error, or timed out without a response, of which the last that was ignored is given.
-fn failure_outcome(error: Option<ErrorReply>, ignored: Option<ErrorReply>) -> Outcome
+pub(crate) fn failure_outcome(error: Option<ErrorReply>, ignored: Option<ErrorReply>) -> Outcome
     ensures { result ≡ failure_outcome error ignored }
 {
     match error {

@@ -1,19 +1,23 @@
 //! The rows of a book.
 
 ghost use Rattle.std.specs.Prelude.{◌≡◌, IfOk, IsOk, IsSome, OnErr, OnOk, drop, slice_get};
-ghost use Rattle.turn_session_book.specs.Book.{first_in};
-ghost use Rattle.turn_session_book.specs.Held.{is_held, is_kept_held, with_mark};
-ghost use Rattle.turn_session_book.specs.OpenRequests.{after_request, first_waiting, request_for, ticket_for, with_hint, with_progress};
+ghost use Rattle.turn_session_book.specs.Book.{after_mark, first_in, is_kept_after, is_requested};
+ghost use Rattle.turn_session_book.specs.Held.{is_held, is_kept_held};
+ghost use Rattle.turn_session_book.specs.OpenRequests.{after_request, first_awaiting, first_closed, first_denied};
+ghost use Rattle.turn_session_book.specs.OpenRequests.{first_unpermitted, first_waiting, keeps, request_for, ticket_for};
+ghost use Rattle.turn_session_book.specs.OpenRequests.{with_closed, with_hint, with_opened, with_progress, with_repeated};
 ghost use Rattle.turn_session_book.specs.OpenRequests.{without_last, without_oldest};
 ghost use Rattle.turn_session_book.specs.Rests.{rest_in_force};
 
 use crate::book::Book;
 use crate::events::Event;
+use crate::held::HeldGrant;
 use crate::keys::Key;
 use crate::open_requests::{OpenRequest, Progress};
 use crate::replies::ErrorReply;
 use crate::rests::Rest;
 use std::alloc::AllocError;
+use std::net::SocketAddr;
 use turn_stun::instant::Instant;
 use turn_types::AddressFamily;
 
@@ -89,6 +93,13 @@ impl Book {
         self.requests.settle_first()
     }
 
+    /// What was granted and has not ended, in the order in which it was granted.
+    pub fn grants(&self) -> &[HeldGrant]
+        ensures { result.now ≡ self.now.held }
+    {
+        self.held.as_slice()
+    }
+
     /// Whether this key was granted, and the caller keeps it.
     pub fn is_kept(&self, key: Key) -> bool
         ensures { result ≡ is_kept_held key self.now.held }
@@ -103,11 +114,80 @@ impl Book {
         self.held.is_held(key)
     }
 
-    /// The caller keeps this key, or lets it go.
+    /// The caller keeps this key, or lets it go, whether it is granted or requested.
     pub fn mark(&mut self, key: Key, is_kept: bool)
-        ensures { self.new ≡ record self.old { held = with_mark key is_kept self.old.held } }
+        ensures { self.new ≡ after_mark key is_kept self.old }
     {
         self.held.mark(key, is_kept);
+        self.requests.keep(key, is_kept);
+        self.requests.keep_permission(key, is_kept);
+    }
+
+    /// The data connection that the client has requested for this key is open from this local address. If the client was not
+    /// asked for it, the peer has requested it, and nothing changes.
+    pub fn open(&mut self, key: Key, local: SocketAddr)
+        ensures { self.new ≡ record self.old { requests = with_opened key local self.old.requests } }
+    {
+        self.requests.open(key, local);
+    }
+
+    /// The data connection from this local address is closed: so is that of the first request for which it was opened.
+    pub fn close(&mut self, local: SocketAddr)
+        ensures { self.new ≡ record self.old { requests = with_closed local self.old.requests } }
+    {
+        self.requests.close(local);
+    }
+
+    /// The first request whose data connection is closed.
+    pub fn first_closed(&self) -> Option<OpenRequest>
+        ensures { result ≡ first_closed self.now.requests }
+    {
+        self.requests.first_closed()
+    }
+
+    /// The request for this key is made once more.
+    pub fn repeat(&mut self, key: Key)
+        ensures { self.new ≡ record self.old { requests = with_repeated key self.old.requests } }
+    {
+        self.requests.repeat(key);
+    }
+
+    /// The first request whose permission is to be requested.
+    pub fn first_unpermitted(&self) -> Option<OpenRequest>
+        ensures { result ≡ first_unpermitted self.now.requests }
+    {
+        self.requests.first_unpermitted()
+    }
+
+    /// The first request for which this permission is requested.
+    pub fn first_awaiting(&self, permission: Key) -> Option<OpenRequest>
+        ensures { result ≡ first_awaiting permission self.now.requests }
+    {
+        self.requests.first_awaiting(permission)
+    }
+
+    /// The first request whose permission was refused.
+    pub fn first_denied(&self) -> Option<OpenRequest>
+        ensures { result ≡ first_denied self.now.requests }
+    {
+        self.requests.first_denied()
+    }
+
+    /// Whether this key was requested for itself, or for a request that awaits it.
+    pub fn is_requested(&self, key: Key) -> bool
+        ensures { result ≡ is_requested key self.now }
+    {
+        self.requests.request_of(key).is_some() || self.requests.first_awaiting(key).is_some()
+    }
+
+    /// Whether this key is kept once it is granted.
+    pub(crate) fn is_kept_after(&self, key: Key) -> bool
+        ensures { result ≡ is_kept_after key self.now }
+    {
+        keeps(
+            self.requests.request_of(key),
+            self.requests.first_needing(key),
+        )
     }
 
     /// The rest of this key, if it has not ended.
@@ -123,5 +203,16 @@ impl Book {
         ensures after { self.new ≡ record self.old { events = drop 1 self.old.events } }
     {
         self.events.pop_front()
+    }
+}
+
+/// Whether a grant is kept that was requested by this request, or else for one that needs it.
+fn keeps(request: Option<OpenRequest>, needing: Option<OpenRequest>) -> bool
+    ensures { result ≡ keeps request needing }
+{
+    match (request, needing) {
+        (Some(request), _) => request.is_kept,
+        (None, Some(request)) => request.keeps_permission,
+        (None, None) => true,
     }
 }
