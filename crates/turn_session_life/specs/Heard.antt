@@ -1,6 +1,6 @@
 -- What the server has said of the allocation (RFC 8656, sections 7.3 and 8.3), and why it ends.
-use Rattle.std.specs.Prelude.{◌≡◌, ℕ, ◌-◌, ◌==◌, ◌&&◌, ◌||◌, nat_lt, not, Bool, true, false, if◌then◌else◌, Option, Some, None}
-use Rattle.std.specs.Option.{option_map_or}
+use Rattle.std.specs.Prelude.{◌≡◌, ℕ, ◌+◌, ◌*◌, ◌^◌, min, ◌-◌, ◌==◌, ◌&&◌, ◌||◌, nat_lt, not, Bool, true, false, if◌then◌else◌, Option, Some, None}
+use Rattle.std.specs.Option.{option_map, option_map_or, option_or}
 use Rattle.std.specs.Duration.{as_nanos}
 use Rattle.turn_session_book.specs.declared.causes.Why.{Why}
 use Rattle.turn_session_book.specs.declared.causes.Why.TheVariants.{Silent, Refused, WrongCredentials, Unauthenticated, NoUsableAddress}
@@ -24,6 +24,7 @@ nothing_heard now = record {
   allocate_error = None;
   refresh_error = None;
   renewed_for = None;
+  lifetime = None;
   challenge = None;
 }
 
@@ -51,8 +52,8 @@ after_sign now h = record h { since = now; is_heard = true; challenge = None }
 
 -- a success forgets the errors of its request
 abbrev pub after_grant : Asked → Option ℕ → Heard → Heard
-after_grant Allocate lifetime h = record h { is_allocated = true; allocate_error = None }
-after_grant Refresh lifetime h = record h { refresh_error = None; renewed_for = lifetime }
+after_grant Allocate lifetime h = record h { is_allocated = true; allocate_error = None; lifetime = lifetime }
+after_grant Refresh lifetime h = record h { refresh_error = None; renewed_for = lifetime; lifetime = option_or lifetime h.lifetime }
 after_grant Other lifetime h = h
 
 -- the client answers a challenge, and so nothing has failed
@@ -78,6 +79,12 @@ after_response r now h = by r.said (after_sign now h)
     by (Granted lifetime) heard = after_grant r.asked lifetime heard
     by (Denied e) heard = after_denial r.asked e heard
     by Nothing heard = heard
+
+-- ---- how long the server may keep the allocation
+
+-- for its lifetime, as it said last, from the last response to a request
+abbrev pub kept_until : Heard → Option ℕ
+kept_until h = option_map (λ seconds. min (h.since + seconds * 1_000_000_000) (2 ^ 63 - 1)) h.lifetime
 
 -- ---- causes, the first that holds
 

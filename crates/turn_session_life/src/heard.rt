@@ -1,10 +1,12 @@
 //! What the server has said of the allocation, and why it ends.
 
 ghost use Rattle.std.specs.Prelude.{◌≡◌};
-ghost use Rattle.turn_session_life.specs.Heard.{IsCauseWithoutAddress, after_challenge, after_denial, after_grant, after_response, after_sign};
-ghost use Rattle.turn_session_life.specs.Heard.{has_hint, is_challenge, is_credentials, cause_of_end, end_by, nothing_heard, refusal, settled};
+ghost use Rattle.turn_session_life.specs.Heard.{IsCauseWithoutAddress, after_challenge, after_denial, after_grant};
+ghost use Rattle.turn_session_life.specs.Heard.{after_response, after_sign, has_hint, is_challenge, is_credentials, cause_of_end};
+ghost use Rattle.turn_session_life.specs.Heard.{end_by, kept_until, nothing_heard, refusal, settled};
 
 use crate::responses::{Asked, Response, Said};
+use std::time::Duration;
 use turn_session_book::causes::Why;
 use turn_session_book::replies::ErrorReply;
 use turn_session_path::suspicion::is_forgotten;
@@ -31,6 +33,8 @@ pub struct Heard {
     pub refresh_error: Option<ErrorReply>,
     /// For how many seconds the last REFRESH was granted.
     pub renewed_for: Option<u32>,
+    /// For how many seconds the server has said that it keeps the allocation, when it did so last.
+    pub lifetime: Option<u32>,
     /// The challenge that was received last, while the client may have ended by it.
     pub challenge: Option<Challenge>,
 }
@@ -57,6 +61,7 @@ impl Heard {
             allocate_error: None,
             refresh_error: None,
             renewed_for: None,
+            lifetime: None,
             challenge: None,
         }
     }
@@ -132,6 +137,15 @@ impl Heard {
         }
     }
 
+    /// Until when the server may keep the allocation: for its lifetime, as it said last, from the last response to a request.
+    /// `None` if it has granted none.
+    pub fn kept_until(&self) -> Option<Instant>
+        ensures { result ≡ kept_until self.now }
+    {
+        let seconds = self.lifetime?;
+        Some(self.since.plus(Duration::from_secs(u64::from(seconds))))
+    }
+
     /// The server was heard.
     fn sign(&mut self, now: Instant)
         ensures { self.new ≡ after_sign now self.old }
@@ -149,10 +163,12 @@ impl Heard {
             Asked::Allocate => {
                 self.is_allocated = true;
                 self.allocate_error = None;
+                self.lifetime = lifetime;
             }
             Asked::Refresh => {
                 self.refresh_error = None;
                 self.renewed_for = lifetime;
+                self.lifetime = lifetime.or(self.lifetime);
             }
             Asked::Other => {}
         }
