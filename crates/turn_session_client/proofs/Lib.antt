@@ -1,1 +1,2 @@
 pub mod DrainLemmas
+pub mod ExpiryLemmas

@@ -1,6 +1,8 @@
 -- Requests of the caller: one for each key at a time.
-use Rattle.std.specs.Prelude.{◌≡◌, ◌⊎◌, ℕ, ◌+◌, ◌%◌, ◌^◌, Bool, true, false, if◌then◌else◌, Option, Some, None, Result, Ok, Err}
+use Rattle.std.specs.Prelude.{◌≡◌, ◌⊎◌, ℕ, ◌+◌, ◌%◌, ◌^◌, ◌&&◌, not, Bool, true, false, if◌then◌else◌, Option, Some, None, Result, Ok, Err}
+use Rattle.std.specs.Net.Socket.{socket_ip}
 use Rattle.turn_stun.specs.declared.transport.TransportType.{TransportType}
+use Rattle.turn_stun.specs.declared.transport.TransportType.TheVariants.{Udp, Tcp}
 use Rattle.turn_client_api.specs.Calls.{can_send_to}
 use Rattle.turn_client_api.specs.State.{State}
 use Rattle.turn_session_book.specs.Held.{is_held}
@@ -11,7 +13,7 @@ use Rattle.turn_session_book.specs.declared.answers.Answer.TheVariants.{Granted,
 use Rattle.turn_session_book.specs.declared.answers.CallError.{CallError}
 use Rattle.turn_session_book.specs.declared.answers.CallError.TheVariants.{NoAllocation, NotGranted, OutOfMemory}
 use Rattle.turn_session_book.specs.declared.keys.Key.{Key}
-use Rattle.turn_session_book.specs.declared.keys.Key.TheVariants.{Permission}
+use Rattle.turn_session_book.specs.declared.keys.Key.TheVariants.{Permission, Channel, Connect}
 use Rattle.turn_session_book.specs.declared.open_requests.OpenRequest.{OpenRequest}
 use Rattle.turn_session_book.specs.declared.open_requests.Progress.{Progress}
 use Rattle.turn_session_book.specs.declared.rests.Rest.{Rest}
@@ -31,14 +33,15 @@ keep_result false = Err NotGranted
 
 -- ---- what needs nothing of the client
 
--- a permission is granted if data may be sent, and a channel if the server bound it
+-- a permission is granted if data may be sent, and a channel if the server bound it and data may be sent
 abbrev pub is_granted : Key → NotedState → Bool
 is_granted key s = by s.notes.relays key
   where
     by : Option TransportType → Key → Bool
     by None _ = false
     by (Some relays) (Permission ip) = can_send_to relays ip s.client
-    by (Some relays) _ = is_held key s.notes.book.held
+    by (Some relays) (Channel peer) = is_held (Channel peer) s.notes.book.held && can_send_to relays (socket_ip peer) s.client
+    by (Some relays) (Connect peer) = false
 
 abbrev pub answer_with : Bool → Option OpenRequest → Option Rest → Option Answer
 answer_with true request rest = Some Granted
@@ -85,12 +88,25 @@ makes key relays now s = by (made key relays now s.client)
     by (Client.Refused error, client) = (Refused error, record s { client = client })
     by (Client.NoMemory, client) = (Refused OutOfMemory, s)
 
+-- a channel that is bound, since its permission is missing then, or a data connection to a peer that is not permitted
+abbrev pub lacks_permission : Key → TransportType → NotedState → Bool
+lacks_permission (Permission ip) relays s = false
+lacks_permission (Channel peer) relays s = is_held (Channel peer) s.notes.book.held
+lacks_permission (Connect peer) Udp s = false
+lacks_permission (Connect peer) Tcp s = not (can_send_to Tcp (socket_ip peer) s.client)
+
+-- the permission is requested first; others wait, or are made at once
+abbrev pub begun_over : Key → TransportType → ℕ → NotedState → Answer × NotedState
+begun_over key relays now s =
+    if lacks_permission key relays s then added key Progress.Unpermitted s
+    else (if must_wait s then added key Progress.Waiting s else makes key relays now s)
+
 abbrev pub begun : Key → ℕ → NotedState → Answer × NotedState
 begun key now s = by s.notes.relays
   where
     by : Option TransportType → Answer × NotedState
     by None = (Refused NoAllocation, s)
-    by (Some relays) = if must_wait s then added key Progress.Waiting s else makes key relays now s
+    by (Some relays) = begun_over key relays now s
 
 -- ---- without memory
 

@@ -1,13 +1,13 @@
 -- What ends a session.
-use Rattle.std.specs.Prelude.{ℕ, Bool, true, false, not, ◌&&◌, ◌||◌, if◌then◌else◌, List, Option, None}
+use Rattle.std.specs.Prelude.{ℕ, Bool, true, false, not, ◌&&◌, ◌||◌, if◌then◌else◌, List, Option, Some, None}
 use Rattle.turn_stun.specs.declared.transport.Transmit.{Transmit}
 use Rattle.turn_client_api.specs.Abandon.{abandon_step}
 use Rattle.turn_session_book.specs.declared.causes.Why.{Why}
-use Rattle.turn_session_book.specs.declared.causes.Why.TheVariants.{Closed}
+use Rattle.turn_session_book.specs.declared.causes.Why.TheVariants.{Closed, Forgotten}
 use Rattle.turn_session_book.specs.declared.tags.Tag.{Tag}
 use Rattle.turn_session_life.specs.Doubts.{after_doubt}
-use Rattle.turn_session_life.specs.Heard.{has_hint}
-use Rattle.turn_session_life.specs.Life.{after_end, after_ending, after_leave}
+use Rattle.turn_session_life.specs.Heard.{has_hint, kept_until}
+use Rattle.turn_session_life.specs.Life.{after_end, after_ending, after_leave, cause_in}
 use Rattle.turn_session_life.specs.Verdict.{after_failure}
 use Rattle.turn_session_life.specs.declared.life.Phase.{Phase}
 use Rattle.turn_session_life.specs.declared.life.Phase.TheVariants.{Opening, Open, Over}
@@ -54,6 +54,14 @@ left now s = by s.life.phase
 -- the session leaves by itself for this cause
 abbrev pub left_for : Why → ℕ → NotedState → NotedState
 left_for why now s = if may_be_granted s then with_life (after_ending why s.leave_wait now s.life) s else ended why s
+
+-- one that the server has forgotten is not kept
+abbrev pub may_be_kept_until : NotedState → Option ℕ
+may_be_kept_until s = by (cause_in s.life.phase)
+  where
+    by : Option Why → Option ℕ
+    by (Some (Forgotten error)) = None
+    by _ = kept_until s.heard
 
 -- ---- a socket that is closed at once
 

@@ -9,6 +9,7 @@ pub mod Keeping
 pub mod Leaving
 pub mod Making
 pub mod Notes
+pub mod Permitting
 pub mod Polling
 pub mod Reading
 pub mod Receiving

@@ -1,13 +1,13 @@
 -- What is noted of a client.
-use Rattle.std.specs.Prelude.{ℕ, ◌&&◌, ◌||◌, Bool, false, if◌then◌else◌, [], Option, Some, None, is_none}
+use Rattle.std.specs.Prelude.{ℕ, ◌&&◌, ◌||◌, Bool, true, false, not, if◌then◌else◌, [], Option, Some, None, is_none}
 use Rattle.turn_client_api.specs.declared.event.TurnEvent.{TurnEvent}
 use Rattle.turn_client_api.specs.declared.event.TurnEvent.TheVariants.{AllocationCreated, AllocationCreateFailed, PermissionCreated, PermissionCreateFailed}
 use Rattle.turn_client_api.specs.declared.event.TurnEvent.TheVariants.{ChannelCreated, ChannelCreateFailed, TcpConnected, TcpConnectFailed}
-use Rattle.turn_session_book.specs.Book.{after_connection, after_failure, after_grant, after_report, new_book, relayed_event}
+use Rattle.turn_session_book.specs.Book.{after_binding, after_connection, after_disconnection, after_failure, after_grant, after_report}
+use Rattle.turn_session_book.specs.Book.{is_requested, new_book, relayed_event}
 use Rattle.turn_session_book.specs.Held.{is_held, is_kept_held, without_grant}
 use Rattle.turn_session_book.specs.Held as Held
 use Rattle.turn_session_book.specs.Keys.{same_key}
-use Rattle.turn_session_book.specs.OpenRequests.{request_for}
 use Rattle.turn_session_book.specs.declared.events.Event.TheVariants.{FamilyFailed}
 use Rattle.turn_session_book.specs.declared.keys.Key.{Key}
 use Rattle.turn_session_book.specs.declared.keys.Key.TheVariants.{Permission, Channel, Connect}
@@ -36,9 +36,9 @@ is_last_question key (Some question) = same_key question key
 abbrev pub is_asked : Key → Notes → Bool
 is_asked key n = is_last_question key n.question || is_held key n.questions
 
--- one that the caller has requested since is its own
+-- one that the caller has requested since, or needs for another request, is its own
 abbrev pub is_question : Key → Notes → Bool
-is_question key n = is_asked key n && is_none (request_for key n.book.requests)
+is_question key n = is_asked key n && not (is_requested key n.book)
 
 -- the last question is noted with those before it
 abbrev pub shelved : Notes → Notes
@@ -46,7 +46,7 @@ shelved n = by n.question
   where
     by : Option Key → Notes
     by None = n
-    by (Some question) = record n { question = None; questions = Held.after_grant question n.questions }
+    by (Some question) = record n { question = None; questions = Held.after_grant question true n.questions }
 
 abbrev pub without_question : Key → Notes → Notes
 without_question key n = record n {
@@ -73,8 +73,9 @@ told_by (Some error) told = Some (record { error = Some error })
 abbrev pub question_failed : Key → Notes → Notes
 question_failed key n = record (without_question key n) { told = told_by n.reply n.told }
 
+-- one that the caller has requested since has ended too
 abbrev pub permission_failed : Key → ℕ → Notes → Notes
-permission_failed key now n = if is_question key n then question_failed key n else failed key now n
+permission_failed key now n = if is_question key n then question_failed key n else without_question key (failed key now n)
 
 -- ---- events
 
@@ -86,7 +87,7 @@ noted (AllocationCreated transport relayed) now n =
 noted (AllocationCreateFailed family) now n = record n { book = after_report (FamilyFailed family n.reply) n.book }
 noted (PermissionCreated transport ip) now n = permitted (Permission ip) n
 noted (PermissionCreateFailed transport ip) now n = permission_failed (Permission ip) now n
-noted (ChannelCreated transport peer) now n = record n { book = after_grant (Channel peer) n.book }
+noted (ChannelCreated transport peer) now n = record n { book = after_binding peer n.book }
 noted (ChannelCreateFailed transport peer) now n = failed (Channel peer) now n
 noted (TcpConnected peer) now n = record n { book = after_connection (Connect peer) n.book }
-noted (TcpConnectFailed peer) now n = record n { book = after_failure (Connect peer) n.reply now n.book }
+noted (TcpConnectFailed peer) now n = record n { book = after_disconnection (Connect peer) n.reply now n.book }

@@ -1,5 +1,6 @@
 -- A session is polled.
 use Rattle.std.specs.Prelude.{◌≡◌, ◌⊎◌, ℕ, min, nat_lt, Bool, true, false, if◌then◌else◌, List, Option, Some, None, is_some}
+use Rattle.std.specs.declared.net.socket_addr.SocketAddr.{SocketAddr}
 use Rattle.turn_stun.specs.declared.transport.Transmit.{Transmit}
 use Rattle.turn_stun.specs.declared.transport.TransportType.{TransportType}
 use Rattle.turn_client_api.specs.Effect.{closed}
@@ -7,9 +8,9 @@ use Rattle.turn_client_api.specs.Poll.{poll_step}
 use Rattle.turn_client_api.specs.State.{State}
 use Rattle.turn_client_api.specs.Transmit.{transmit_step}
 use Rattle.turn_client_api.specs.declared.poll.TurnPollRet.{TurnPollRet}
-use Rattle.turn_client_api.specs.declared.poll.TurnPollRet.TheVariants.{WaitUntil, Closed}
+use Rattle.turn_client_api.specs.declared.poll.TurnPollRet.TheVariants.{WaitUntil, TcpClose, Closed}
 use Rattle.turn_session_book.specs.Book.{after_settlement}
-use Rattle.turn_session_book.specs.OpenRequests.{with_progress}
+use Rattle.turn_session_book.specs.OpenRequests.{with_closed, with_progress}
 use Rattle.turn_session_book.specs.declared.answers.Outcome.TheVariants.{NotMade}
 use Rattle.turn_session_book.specs.declared.causes.Why.{Why}
 use Rattle.turn_session_book.specs.declared.causes.Why.TheVariants.{GrantSilent, OutOfMemory}
@@ -27,6 +28,7 @@ use Rattle.turn_session_life.specs.declared.verdict.VerdictStep.TheVariants as V
 use Rattle.turn_session_client.specs.Drain.{drained}
 use Rattle.turn_session_client.specs.Ending.{ended, is_opening, is_over, left_for}
 use Rattle.turn_session_client.specs.Expiring.{ExpiryWaits, expiry_noted, first_expired}
+use Rattle.turn_session_client.specs.Keeping.{let_go}
 use Rattle.turn_session_client.specs.Leaving.{PollsLeaving, shortage_end}
 use Rattle.turn_session_client.specs.Making.{made}
 use Rattle.turn_session_client.specs.NotedState.{NotedState, is_stream, with_book}
@@ -37,13 +39,15 @@ use Rattle.turn_session_client.specs.declared.making.Made.TheVariants as Client
 -- ---- a request that waits is made
 
 -- it waits no longer, or it is not made, which is its outcome
-abbrev pub waiting_made : Key → TransportType → ℕ → NotedState → NotedState
-waiting_made key relays now s = by (made key relays now s.client)
+abbrev pub waiting_made : OpenRequest → TransportType → ℕ → NotedState → NotedState
+waiting_made r relays now s = by (made r.key relays now s.client)
   where
     by : Made × State → NotedState
     by (Client.Queued, client) =
-        record (with_book (record s.notes.book { requests = with_progress key Queued s.notes.book.requests }) s) { client = client }
-    by (Client.Refused error, client) = record (with_book (after_settlement key (NotMade error) s.notes.book) s) { client = client }
+        record (with_book (record s.notes.book { requests = with_progress r.key Queued s.notes.book.requests }) s) {
+          client = let_go r.is_kept r.key relays client;
+        }
+    by (Client.Refused error, client) = record (with_book (after_settlement r.key (NotMade error) s.notes.book) s) { client = client }
     by (Client.NoMemory, client) = s
 
 -- the first of them, if fewer than eight requests of the client are queued
@@ -51,7 +55,7 @@ abbrev pub next_made : ℕ → NotedState → Bool × NotedState
 next_made now s = by s.notes.relays (next_to_make s)
   where
     by : Option TransportType → Option OpenRequest → Bool × NotedState
-    by (Some relays) (Some r) = (true, waiting_made r.key relays now s)
+    by (Some relays) (Some r) = (true, waiting_made r relays now s)
     by _ _ = (false, s)
 
 -- ---- without memory
@@ -137,9 +141,14 @@ sooner time s = by s.life.phase s.verdict.blame
 abbrev pub next_time : ℕ → ℕ → NotedState → ℕ
 next_time time now s = if is_some (first_expired s) then now else sooner time s
 
+-- a request that this data connection was opened for has its outcome by the next call, unless an event of the client reports it
+abbrev pub after_close : SocketAddr → NotedState → NotedState
+after_close local s = with_book (record s.notes.book { requests = with_closed local s.notes.book.requests }) s
+
 abbrev pub AfterPoll : ℕ → TurnPollRet → NotedState → NotedState → TurnPollRet → Type 0
 AfterPoll now (WaitUntil time) was s answer = (answer ≡ WaitUntil (next_time time now was)) × (s ≡ waiting time now was)
 AfterPoll now Closed was s answer = Closes now was s answer
+AfterPoll now (TcpClose local remote) was s answer = (answer ≡ TcpClose local remote) × (s ≡ after_close local was)
 AfterPoll now said was s answer = (answer ≡ said) × (s ≡ was)
 
 -- without memory the client has ended
@@ -160,10 +169,10 @@ abbrev pub MakesOrPolls : ℕ → NotedState → NotedState → TurnPollRet → 
 MakesOrPolls now was s answer = MadeOrPolled now was (next_made now was) s answer
 
 abbrev pub ExpiredOrWent : ℕ → NotedState → Bool × NotedState → NotedState → TurnPollRet → Type 0
-ExpiredOrWent now was (true, t) s answer = ((answer ≡ WaitUntil now) × (s ≡ t)) ⊎ (IsShort now answer × ExpiryWaits was s)
+ExpiredOrWent now was (true, t) s answer = ((answer ≡ WaitUntil now) × (s ≡ t)) ⊎ (IsShort now answer × ExpiryWaits now was s)
 ExpiredOrWent now was (false, t) s answer = MakesOrPolls now t s answer
 
--- what has ended with its allocation is noted first, one after the other
+-- what has ended with its allocation or its data connection is noted first, one after the other
 abbrev pub ExpiresOrGoesOn : ℕ → NotedState → NotedState → TurnPollRet → Type 0
 ExpiresOrGoesOn now was s answer = ExpiredOrWent now was (expiry_noted now was) s answer
 

@@ -1,12 +1,14 @@
 -- Responses to requests of the client: what they say, and what of it counts once the client has accepted or ignored them.
-use Rattle.std.specs.Prelude.{◌≡◌, ◌⊎◌, ℕ, Bool, true, false, not, if◌then◌else◌, List, slice_get, Option, Some, None, IsSome, is_some, option_and_then, option_map}
+use Rattle.std.specs.Prelude.{◌≡◌, ◌⊎◌, ◌==◌, ◌||◌, ℕ, Bool, true, false, not, if◌then◌else◌, List, slice_get, Option, Some, None}
+use Rattle.std.specs.Prelude.{IsSome, is_some, option_and_then, option_map}
 use Rattle.std.specs.declared.net.socket_addr.SocketAddr.{SocketAddr}
 use Rattle.turn_stun.specs.Message.{IsMessage, attributes_of, fault_of, id_of, type_of}
 use Rattle.turn_stun.specs.declared.message.header.MessageClass.{MessageClass}
 use Rattle.turn_stun.specs.declared.message.header.MessageClass.TheVariants as Class
 use Rattle.turn_client_api.specs.Grants.{purposes_of}
-use Rattle.turn_client_api.specs.Judgement.{class_in, lifetime_in}
+use Rattle.turn_client_api.specs.Judgement.{class_in, lifetime_in, method_in}
 use Rattle.turn_client_api.specs.RequestViews.{viewed_request}
+use Rattle.turn_client_api.specs.Requests.{method_for}
 use Rattle.turn_client_api.specs.State.{State}
 use Rattle.turn_client_api.specs.declared.grant.Purpose.{Purpose}
 use Rattle.turn_client_api.specs.declared.grant.Purpose.TheVariants.{ForAllocation, ForRefresh, ForPermission, ForChannel, ForConnect, ForBind}
@@ -72,6 +74,20 @@ abbrev pub IsReading : List ℕ → State → Option Reading → Type 0
 IsReading bytes s (Some r) = IsResponseTo bytes s r
 IsReading bytes s None =
     (is_channel_data bytes ≡ true) ⊎ (IsSome (fault_of bytes) ⊎ ((first_purpose bytes s ≡ None) ⊎ IsText bytes None))
+
+-- ---- a response that answers nothing
+
+-- it has another method than the request with its ID (RFC 8489, section 6.3)
+abbrev pub has_other_method : List ℕ → State → Bool
+has_other_method bytes s = by (class_in bytes) (first_purpose bytes s)
+  where
+    by : MessageClass → Option Purpose → Bool
+    by Class.Success (Some purpose) = not (method_for purpose == method_in bytes)
+    by Class.Error (Some purpose) = not (method_for purpose == method_in bytes)
+    by _ _ = false
+
+abbrev pub is_foreign : List ℕ → State → Bool
+is_foreign bytes s = if is_channel_data bytes || is_some (fault_of bytes) then false else has_other_method bytes s
 
 -- ---- what of it counts
 

@@ -1,5 +1,5 @@
 -- What the server sent, and a session after it.
-use Rattle.std.specs.Prelude.{◌≡◌, ℕ, Bool, true, false, if◌then◌else◌, List, Option, Some, None}
+use Rattle.std.specs.Prelude.{◌≡◌, ◌&&◌, ℕ, Bool, true, false, if◌then◌else◌, List, Option, Some, None}
 use Rattle.std.specs.declared.net.socket_addr.SocketAddr.{SocketAddr}
 use Rattle.turn_stun.specs.declared.transport.TransportType.{TransportType}
 use Rattle.turn_client_api.specs.Payloads.{Outcome}
@@ -8,6 +8,7 @@ use Rattle.turn_client_api.specs.Receive.{recv_step}
 use Rattle.turn_client_api.specs.State.{State}
 use Rattle.turn_client_api.specs.declared.event.TurnEvent.{TurnEvent}
 use Rattle.turn_session_book.specs.BookState.{BookState}
+use Rattle.turn_session_book.specs.Keys.{same_peer}
 use Rattle.turn_session_book.specs.OpenRequests.{with_hint}
 use Rattle.turn_session_book.specs.declared.causes.Why.TheVariants.{OutOfMemory}
 use Rattle.turn_session_book.specs.declared.keys.Key.{Key}
@@ -23,7 +24,7 @@ use Rattle.turn_session_life.specs.declared.responses.Response.{Response}
 use Rattle.turn_session_life.specs.declared.verdict.Blame.{Blame}
 use Rattle.turn_session_client.specs.Drain.{drained}
 use Rattle.turn_session_client.specs.Ending.{is_open}
-use Rattle.turn_session_client.specs.Reading.{IsReading, hint_in, ignored_in, mapped_after, reply_in, response_to}
+use Rattle.turn_session_client.specs.Reading.{IsReading, hint_in, ignored_in, is_foreign, mapped_after, reply_in, response_to}
 use Rattle.turn_session_client.specs.NotedState.{NotedState, with_book, with_life}
 use Rattle.turn_session_client.specs.declared.reading.Reading.{Reading}
 
@@ -31,10 +32,16 @@ abbrev pub is_taken : Outcome → Bool
 is_taken Outcomes.Handled = true
 is_taken _ = false
 
--- after the end of a session nothing is for it
-abbrev pub outcome_in : Phase → Outcome → Outcome
-outcome_in (Over why) outcome = Outcomes.Ignored
-outcome_in _ outcome = outcome
+-- over the control connection, a response that has another method than its request
+abbrev pub answers_nothing : SocketAddr → List ℕ → State → Bool
+answers_nothing to bytes s = same_peer to s.local && is_foreign bytes s
+
+-- after the end of a session nothing is for it, and before it leaves a response that answers nothing is not
+abbrev pub outcome_in : Phase → Bool → Outcome → Outcome
+outcome_in (Over why) is_nothing outcome = Outcomes.Ignored
+outcome_in (Leaving leave) is_nothing outcome = outcome
+outcome_in _ true outcome = Outcomes.Ignored
+outcome_in _ false outcome = outcome
 
 -- ---- a response
 
@@ -100,14 +107,15 @@ heard_step transport from to bytes reading now s =
     let step = recv_step transport from to bytes now s.client in
     received reading (reply_for reading s) (is_taken step.0) now (record s { client = step.1 })
 
--- a session that leaves notes nothing, and after its end nothing changes
+-- a session that leaves notes nothing, and after its end nothing changes; nor does it by a response that answers nothing
 abbrev pub Receives : TransportType → SocketAddr → SocketAddr → List ℕ → ℕ → NotedState → NotedState → Type 0
-Receives transport from to bytes now was s = by was.life.phase
+Receives transport from to bytes now was s = by was.life.phase (answers_nothing to bytes was.client)
   where
-    by : Phase → Type 0
-    by (Over why) = s ≡ was
-    by (Leaving leave) = s ≡ record was { client = (recv_step transport from to bytes now was.client).1 }
-    by _ = (reading : Option Reading) × IsReading bytes was.client reading
+    by : Phase → Bool → Type 0
+    by (Over why) _ = s ≡ was
+    by (Leaving leave) _ = s ≡ record was { client = (recv_step transport from to bytes now was.client).1 }
+    by _ true = s ≡ was
+    by _ false = (reading : Option Reading) × IsReading bytes was.client reading
         × (drained now s ≡ drained now (heard_step transport from to bytes reading now was))
 
 -- ---- without memory

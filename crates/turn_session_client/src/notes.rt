@@ -1,8 +1,8 @@
 //! What is noted of a client.
 
 ghost use Rattle.std.specs.Prelude.{◌≡◌, OnErr, OnOk};
-ghost use Rattle.turn_session_client.specs.Notes.{adopted, failed, new_notes, noted, permission_failed, permitted};
-ghost use Rattle.turn_session_client.specs.Notes.{is_asked, is_last_question, is_question, question_failed, shelved, without_question};
+ghost use Rattle.turn_session_client.specs.Notes.{adopted, failed, new_notes, noted, permission_failed, permitted, is_asked};
+ghost use Rattle.turn_session_client.specs.Notes.{is_last_question, is_question, question_failed, shelved, without_question};
 
 use std::alloc::{AllocError, Global};
 use std::net::SocketAddr;
@@ -75,11 +75,11 @@ impl Notes {
                 .family_failed(family, self.reply),
             TurnEvent::PermissionCreated(_, ip) => self.permitted(Key::Permission(ip)),
             TurnEvent::PermissionCreateFailed(_, ip) => self.refused(Key::Permission(ip), now),
-            TurnEvent::ChannelCreated(_, peer) => self.book.granted(Key::Channel(peer)),
+            TurnEvent::ChannelCreated(_, peer) => self.book.bound(peer),
             TurnEvent::ChannelCreateFailed(_, peer) => self.failed(Key::Channel(peer), now),
             TurnEvent::TcpConnected(peer) => self.book.connected(Key::Connect(peer)),
             TurnEvent::TcpConnectFailed(peer) => {
-                self.book.failed(Key::Connect(peer), self.reply, now)
+                self.book.disconnected(Key::Connect(peer), self.reply, now)
             }
         }
     }
@@ -136,7 +136,9 @@ impl Notes {
             self.answered(key);
             return Ok(());
         }
-        self.failed(key, now)
+        self.failed(key, now)?;
+        self.forget_question(key);
+        Ok(())
     }
 
     /// A question has ended: the server has said this error, or none.
@@ -159,11 +161,11 @@ impl Notes {
         let _kept = self.questions.ended(key);
     }
 
-    /// Whether this permission is a question, and none that the caller has requested since.
+    /// Whether this permission is a question, and none that the caller has requested since, or needs for another request.
     fn is_question(&self, key: Key) -> bool
         ensures { result ≡ is_question key self.now }
     {
-        self.is_asked(key) && self.book.request_of(key).is_none()
+        self.is_asked(key) && !self.book.is_requested(key)
     }
 
     /// Whether this permission was requested as a question, and has not ended.
@@ -195,7 +197,7 @@ impl Notes {
         let Some(question) = self.question else {
             return Ok(());
         };
-        self.questions.granted(question)?;
+        self.questions.granted(question, true)?;
         self.question = None;
         Ok(())
     }

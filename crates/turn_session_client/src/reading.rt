@@ -2,8 +2,9 @@
 
 ghost use Rattle.std.specs.Prelude.{◌≡◌, option_and_then};
 ghost use Rattle.turn_client_api.specs.Judgement.{lifetime_in};
-ghost use Rattle.turn_session_client.specs.Reading.{IsReading, IsText, asked_for, hint_in, ignored_in, key_for, mapped_after};
-ghost use Rattle.turn_session_client.specs.Reading.{reply_in, response_to};
+ghost use Rattle.turn_client_api.specs.Requests.{method_for};
+ghost use Rattle.turn_session_client.specs.Reading.{IsReading, IsText, asked_for, has_other_method, hint_in, ignored_in};
+ghost use Rattle.turn_session_client.specs.Reading.{is_foreign, key_for, mapped_after, reply_in, response_to};
 
 use crate::answering::{is_channel_data, reply_of};
 use std::net::SocketAddr;
@@ -14,7 +15,11 @@ use turn_session_book::replies::ErrorReply;
 use turn_session_life::responses::{Asked, Response, Said};
 use turn_stun::message::Message;
 use turn_stun::message::header::MessageClass;
+use turn_stun::message::method::Method;
 use turn_types::attribute::Lifetime;
+use turn_types::message::{
+    ALLOCATE, CHANNEL_BIND, CONNECT, CONNECTION_BIND, CREATE_PERMISSION, REFRESH,
+};
 
 /// What a response says.
 #[derive(Clone, Copy, Debug)]
@@ -58,6 +63,47 @@ pub(crate) fn read<C: TurnClientApi>(bytes: &[u8], client: &C) -> Option<Reading
         is_awaited: view.resends.is_some(),
         text,
     })
+}
+
+/// Whether these bytes are a response that has another method than the request with its ID. It answers nothing (RFC 8489, section
+/// 6.3), and a client would end the request by it if it were signed.
+pub(crate) fn is_foreign<C: TurnClientApi>(bytes: &[u8], client: &C) -> bool
+    ensures { result ≡ is_foreign bytes.now (C.state client.now) }
+{
+    if is_channel_data(bytes) {
+        return false;
+    }
+    match Message::from_bytes(bytes) {
+        Ok(message) => has_other_method(&message, client),
+        Err(_) => false,
+    }
+}
+
+/// Whether it is a response that has another method than the request with its ID.
+fn has_other_method<C: TurnClientApi>(message: &Message<'_>, client: &C) -> bool
+    ensures { result ≡ has_other_method message.now (C.state client.now) }
+{
+    let request = client.request_of(message.transaction_id());
+    match (message.class(), request.first) {
+        (MessageClass::Success | MessageClass::Error, Some(purpose)) => {
+            method_for(purpose) != message.method()
+        }
+        _ => false,
+    }
+}
+
+/// The method of a request for this purpose.
+fn method_for(purpose: Purpose) -> Method
+    ensures { result.value ≡ method_for purpose }
+{
+    match purpose {
+        Purpose::ForAllocation => ALLOCATE,
+        Purpose::ForRefresh(_, _) => REFRESH,
+        Purpose::ForPermission(_) => CREATE_PERMISSION,
+        Purpose::ForChannel(_, _) => CHANNEL_BIND,
+        Purpose::ForConnect(_) => CONNECT,
+        Purpose::ForBind(_, _, _) => CONNECTION_BIND,
+    }
 }
 
 /// What the message says, if it is a response.

@@ -1,14 +1,13 @@
-//! Requests of the caller, and what it keeps.
+//! Requests of the caller.
 
 ghost use Rattle.std.specs.Prelude.{◌≡◌, ◌≤◌, ◌^◌, true};
-ghost use Rattle.turn_session_client.specs.Asking.{Answers, Begins, Requests, added, answer_with, begun};
-ghost use Rattle.turn_session_client.specs.Asking.{grant_of, is_granted, keep_result, known_answer, makes, taken_over};
-ghost use Rattle.turn_session_client.specs.Keeping.{keep_step, kept_while_running};
+ghost use Rattle.turn_session_client.specs.Asking.{Answers, Begins, Requests, added, answer_with, begun, grant_of, is_granted};
+ghost use Rattle.turn_session_client.specs.Asking.{known_answer, lacks_permission, makes, taken_over};
+ghost use Rattle.turn_session_client.specs.Keeping.{keep_step};
 ghost use Rattle.turn_session_client.specs.Waiting.{must_wait};
 ghost use Rattle.turn_session_book.specs.OpenRequests.{request_for};
 
 use crate::constants::MAX_UNSENT;
-use crate::keeping::keep;
 use crate::making::{Made, make};
 use crate::noted::NotedClient;
 use turn_client_api::TurnClientApi;
@@ -26,6 +25,9 @@ impl<C: TurnClientApi> NotedClient<C> {
     /// request of the same key that is under way. At most eight requests of the client are queued at a time, and the others wait
     /// here, in the order in which they were made. Without memory nothing is requested, nor by a session that leaves or has ended.
     /// What is granted is the caller's, also a permission by which the session has asked whether the server knows the allocation.
+    ///
+    /// A data connection to a peer that is not permitted, and a channel whose permission has ended, request that permission
+    /// first. A data connection that the server closes before it has bound it is requested once more.
     pub fn request(&mut self, key: Key, is_for_data: bool, now: Instant) -> Answer
         requires now_in_range { now ≤ 2 ^ 62 }
         ensures { Requests key is_for_data now result self.old self.new }
@@ -60,41 +62,9 @@ impl<C: TurnClientApi> NotedClient<C> {
         }
     }
 
-    /// Says whether this key is kept, so that it is refreshed. It is until the caller says otherwise.
-    ///
-    /// # Errors
-    ///
-    /// `NotGranted` if it was neither granted nor requested, for a data connection, and if the session leaves or has ended. Nothing
-    /// changes then.
-    pub fn set_kept(&mut self, key: Key, is_kept: bool) -> Result<(), CallError>
-        ensures answer { result ≡ keep_result (kept_while_running key is_kept self.old).0 }
-        ensures after { self.new ≡ (kept_while_running key is_kept self.old).1 }
-    {
-        if self.life.is_running() && self.keep(key, is_kept) {
-            return Ok(());
-        }
-        Err(CallError::NotGranted)
-    }
-
-    /// Says whether this key is kept. Returns whether there is such a grant, or a request for it.
-    fn keep(&mut self, key: Key, is_kept: bool) -> bool
-        ensures { (result, self.new) ≡ keep_step key is_kept self.old }
-    {
-        let Some(relays) = self.notes.relays else {
-            return false;
-        };
-        match keep(&mut self.client, relays, key, is_kept) {
-            Ok(()) => {
-                self.notes.book.mark(key, is_kept);
-                true
-            }
-            Err(_) => false,
-        }
-    }
-
-    /// How far this key has come, as a request for data would be answered that needs nothing of the client: `Granted` if it is active,
-    /// `Ticket` if it is requested, `Resting` if the server refused it a while ago, and `Ended` if the session leaves or has ended. With
-    /// `None` it would be requested.
+    /// How far this key has come, as a request for data would be answered that needs nothing of the client: `Granted` if it is
+    /// active, for a channel with its permission, `Ticket` if it is requested, `Resting` if the server refused it a while ago,
+    /// and `Ended` if the session leaves or has ended. With `None` it would be requested.
     pub fn grant_of(&self, key: Key, now: Instant) -> Option<Answer>
         ensures { result ≡ grant_of key now self.now }
     {
@@ -117,7 +87,7 @@ impl<C: TurnClientApi> NotedClient<C> {
     }
 
     /// Whether this key is granted now. A data connection that is open is no grant.
-    fn is_granted(&self, key: Key) -> bool
+    pub(crate) fn is_granted(&self, key: Key) -> bool
         ensures { result ≡ is_granted key self.now }
     {
         let Some(relays) = self.notes.relays else {
@@ -125,7 +95,10 @@ impl<C: TurnClientApi> NotedClient<C> {
         };
         match key {
             Key::Permission(ip) => self.client.have_permission(relays, ip),
-            _ => self.notes.book.is_held(key),
+            Key::Channel(peer) => {
+                self.notes.book.is_held(key) && self.client.have_permission(relays, peer.ip())
+            }
+            Key::Connect(_) => false,
         }
     }
 
@@ -138,10 +111,28 @@ impl<C: TurnClientApi> NotedClient<C> {
         let Some(relays) = self.notes.relays else {
             return Answer::Refused(CallError::NoAllocation);
         };
+        if self.lacks_permission(key, relays) {
+            return self.add(key, Progress::Unpermitted);
+        }
         if self.must_wait() {
             return self.add(key, Progress::Waiting);
         }
         self.make_first(key, relays, now)
+    }
+
+    /// Whether a request for this key, which is not granted, needs a permission first: for a channel that is bound, and for a
+    /// data connection to a peer that is not permitted.
+    fn lacks_permission(&self, key: Key, relays: TransportType) -> bool
+        ensures { result ≡ lacks_permission key relays self.now }
+    {
+        match (key, relays) {
+            (Key::Permission(_), _) => false,
+            (Key::Channel(_), _) => self.notes.book.is_held(key),
+            (Key::Connect(_), TransportType::Udp) => false,
+            (Key::Connect(peer), TransportType::Tcp) => {
+                !self.client.have_permission(TransportType::Tcp, peer.ip())
+            }
+        }
     }
 
     /// Whether a new request waits: behind others that do, or while eight requests of the client are queued.

@@ -1,7 +1,8 @@
 //! What ends a session, as its caller reports it.
 
 ghost use Rattle.std.specs.Prelude.{◌≡◌, ◌≤◌, ◌^◌, IfOk, IsOk, OnErr, OnOk};
-ghost use Rattle.turn_session_client.specs.Ending.{abandon_result, abandon_state, after_socket_error, ended, left, left_for, left_unopened};
+ghost use Rattle.turn_session_client.specs.Ending.{abandon_result, abandon_state, after_socket_error, ended, left, left_for};
+ghost use Rattle.turn_session_client.specs.Ending.{left_unopened, may_be_kept_until};
 
 use crate::noted::NotedClient;
 use std::alloc::AllocError;
@@ -24,6 +25,18 @@ impl<C: TurnClientApi> NotedClient<C> {
             Phase::Open => self.life.leave(self.leave_wait, now),
             Phase::Opening => self.leave_unopened(now),
             _ => {}
+        }
+    }
+
+    /// Until when the server may keep the allocation of this session, also after the end: for its lifetime, as the server said
+    /// last, from the last response to a request. A deletion may end it sooner. `None` if the server has granted none, or no
+    /// longer knows it.
+    pub fn may_be_kept_until(&self) -> Option<Instant>
+        ensures { result ≡ may_be_kept_until self.now }
+    {
+        match self.life.cause() {
+            Some(Why::Forgotten(_)) => None,
+            _ => self.heard.kept_until(),
         }
     }
 

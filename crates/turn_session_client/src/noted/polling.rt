@@ -5,8 +5,9 @@ ghost use Rattle.turn_client_api.specs.Effect.{closed};
 ghost use Rattle.turn_client_api.specs.Transmit.{next_transmit};
 ghost use Rattle.turn_session_client.specs.Drain.{drained};
 ghost use Rattle.turn_session_client.specs.Ending.{ended};
-ghost use Rattle.turn_session_client.specs.Polling.{AfterPoll, Closes, ExpiresOrGoesOn, IsCause, MakesOrPolls, Polls, PollsClient, PollsRunning};
-ghost use Rattle.turn_session_client.specs.Polling.{cause_noted, next_time, opened, prepared, silent_grant, sooner, transmitted, waiting};
+ghost use Rattle.turn_session_client.specs.Polling.{AfterPoll, Closes, ExpiresOrGoesOn, IsCause, MakesOrPolls, Polls};
+ghost use Rattle.turn_session_client.specs.Polling.{PollsClient, PollsRunning, cause_noted, next_time, opened, prepared};
+ghost use Rattle.turn_session_client.specs.Polling.{silent_grant, sooner, transmitted, waiting};
 
 use crate::noted::NotedClient;
 use crate::noted::leaving::shortage_end;
@@ -65,7 +66,7 @@ impl<C: TurnClientApi> NotedClient<C> {
         Ok(self.note_cause(now))
     }
 
-    /// Notes what has ended with its allocation, one after the other, and goes on then.
+    /// Notes what has ended with its allocation or its data connection, one after the other, and goes on then.
     fn poll_prepared(&mut self, now: Instant) -> TurnPollRet
         requires now_in_range { now ≤ 2 ^ 62 }
         ensures { ExpiresOrGoesOn now self.old self.new result }
@@ -152,6 +153,10 @@ impl<C: TurnClientApi> NotedClient<C> {
             TurnPollRet::WaitUntil(time) => {
                 self.settle(time, now);
                 TurnPollRet::WaitUntil(self.next_time(time, now))
+            }
+            TurnPollRet::TcpClose { local_addr, .. } => {
+                self.notes.book.close(local_addr);
+                answer
             }
             _ => answer,
         }

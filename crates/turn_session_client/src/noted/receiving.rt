@@ -6,11 +6,13 @@ ghost use Rattle.turn_client_api.specs.Receive.{recv_step};
 ghost use Rattle.turn_session_client.specs.Drain.{drained};
 ghost use Rattle.turn_session_client.specs.Reading.{IsReading};
 ghost use Rattle.turn_session_client.specs.declared.reading.Reading.{Reading};
-ghost use Rattle.turn_session_client.specs.Receiving.{Receives, ended_with, heard_step, noted_response, outcome_in, reply_for, received};
-ghost use Rattle.turn_session_client.specs.Receiving.{with_hints};
+ghost use Rattle.turn_session_client.specs.Receiving.{Receives, answers_nothing, ended_with, heard_step, noted_response};
+ghost use Rattle.turn_session_client.specs.Receiving.{outcome_in, reply_for, received, with_hints};
 
 use crate::noted::NotedClient;
-use crate::reading::{Reading, hint_in, ignored_in, mapped_after, read, reply_in, response_to};
+use crate::reading::{
+    Reading, hint_in, ignored_in, is_foreign, mapped_after, read, reply_in, response_to,
+};
 use std::alloc::AllocError;
 use std::convert::AsSlice;
 use std::fmt::Debug;
@@ -28,6 +30,9 @@ impl<C: TurnClientApi> NotedClient<C> {
     /// client ends its request, so that an event reports an error with the outcome, and the session knows why it ends. Over a stream
     /// it is read if it comes by itself. While the session leaves nothing is noted, and after its end all input is returned.
     ///
+    /// A response that has another method than the request with its ID answers nothing, and is returned before the client takes
+    /// it: the request still awaits its response.
+    ///
     /// # Errors
     ///
     /// If memory allocation fails in the client, which has ended then, and the session with it. If it fails for the notes, `poll`
@@ -39,7 +44,8 @@ impl<C: TurnClientApi> NotedClient<C> {
     ) -> Result<TurnRecvRet<T>, AllocError>
         requires now_in_range { now ≤ 2 ^ 62 }
         ensures answer { IfOk result (λ answer. outcome_of answer
-            ≡ outcome_in self.old.life.phase (recv_step transmit.transport transmit.from transmit.to (T.items transmit.payload) now self.old.client).0) }
+            ≡ outcome_in self.old.life.phase (answers_nothing transmit.to (T.items transmit.payload) self.old.client)
+            (recv_step transmit.transport transmit.from transmit.to (T.items transmit.payload) now self.old.client).0) }
         ensures hands_back { IfOk result (HandsBack transmit) }
         ensures after { OnOk result (Receives transmit.transport transmit.from transmit.to (T.items transmit.payload) now self.old self.new) }
         ensures no_memory { OnErr result (RecvEnds transmit.to (T.items transmit.payload) now self.old.client self.new.client) }
@@ -48,8 +54,17 @@ impl<C: TurnClientApi> NotedClient<C> {
         match self.life.phase {
             Phase::Over(_) => Ok(TurnRecvRet::Ignored(transmit)),
             Phase::Leaving(_) => self.pass_in(transmit, now),
+            _ if self.answers_nothing(&transmit) => Ok(TurnRecvRet::Ignored(transmit)),
             _ => self.hear(transmit, now),
         }
+    }
+
+    /// Whether it is a response over the control connection that answers nothing.
+    fn answers_nothing<T: AsSlice<u8> + Debug + Drop>(&self, transmit: &Transmit<T>) -> bool
+        ensures { result ≡ answers_nothing transmit.now.to (T.items transmit.now.payload) self.now.client }
+    {
+        transmit.to == self.client.local_addr()
+            && is_foreign(transmit.payload.as_slice(), &self.client)
     }
 
     /// Reads it, passes it to the client, and notes what it says and what the client does.

@@ -7,15 +7,15 @@ use crate::noted::NotedClient;
 use std::alloc::AllocError;
 use std::net::SocketAddr;
 use turn_client_api::{Socket5Tuple, TcpAllocateError, TurnClientApi};
-use turn_session_book::answers::Outcome;
 use turn_session_book::keys::Key;
 use turn_session_book::tags::Tag;
 use turn_session_life::life::Phase;
 use turn_stun::instant::Instant;
 
 impl<C: TurnClientApi> NotedClient<C> {
-    /// The caller has opened the data connection for which `poll` has asked by these three values, from this local address. The client
-    /// binds it, and an event reports whether it could.
+    /// The caller has opened the data connection for which `poll` has asked by these three values, from this local address. The
+    /// client binds it, and an event reports whether it could, also if the server closes it before. No event reports one that the
+    /// peer has requested: it is none of the caller's requests.
     ///
     /// # Errors
     ///
@@ -35,7 +35,9 @@ impl<C: TurnClientApi> NotedClient<C> {
             return Err(TcpAllocateError::NoAllocation);
         }
         self.client
-            .allocated_tcp_socket(id, socket, peer, Some(local), now)
+            .allocated_tcp_socket(id, socket, peer, Some(local), now)?;
+        self.notes.book.open(Key::Connect(peer), local);
+        Ok(())
     }
 
     /// The caller could not open the data connection for which `poll` has asked by these three values: that is the outcome of a
@@ -43,8 +45,8 @@ impl<C: TurnClientApi> NotedClient<C> {
     ///
     /// # Errors
     ///
-    /// `NoAllocation` if the client has not asked for it, or after the end. A request has its outcome all the same. `OutOfMemory`:
-    /// call it again.
+    /// `NoAllocation` if the client has not asked for it, or after the end. A request that the client was asked for has its
+    /// outcome all the same. `OutOfMemory`: call it again.
     pub fn data_failed(
         &mut self,
         id: u32,
@@ -89,7 +91,7 @@ impl<C: TurnClientApi> NotedClient<C> {
         Ok(())
     }
 
-    /// The outcome of a request for a data connection to this peer.
+    /// The outcome of a request for a data connection to this peer, if the client was asked for it.
     ///
     /// # Errors
     ///
@@ -98,8 +100,6 @@ impl<C: TurnClientApi> NotedClient<C> {
         ensures ok { OnOk result (self.new ≡ settled_socket peer tag self.old) }
         ensures err { OnErr result (self.new ≡ self.old) }
     {
-        self.notes
-            .book
-            .settled(Key::Connect(peer), Outcome::NotOpened(tag))
+        self.notes.book.not_opened(Key::Connect(peer), tag)
     }
 }

@@ -5,12 +5,12 @@ ghost use Rattle.turn_session_client.specs.Polling.{NextWaitsOn, WaitsOn, next_m
 ghost use Rattle.turn_session_client.specs.Waiting.{next_to_make};
 
 use crate::constants::MAX_UNSENT;
+use crate::keeping::let_go;
 use crate::making::{Made, make};
 use crate::noted::NotedClient;
 use std::alloc::AllocError;
 use turn_client_api::TurnClientApi;
 use turn_session_book::answers::Outcome;
-use turn_session_book::keys::Key;
 use turn_session_book::open_requests::{OpenRequest, Progress};
 use turn_stun::instant::Instant;
 use turn_types::TransportType;
@@ -32,7 +32,7 @@ impl<C: TurnClientApi> NotedClient<C> {
         let Some(request) = self.next_to_make() else {
             return Ok(false);
         };
-        self.make_waiting(request.key, relays, now)?;
+        self.make_waiting(request, relays, now)?;
         Ok(true)
     }
 
@@ -46,23 +46,25 @@ impl<C: TurnClientApi> NotedClient<C> {
         self.notes.book.first_waiting()
     }
 
-    /// Makes the request for this key, which waits.
+    /// Makes this request, which waits. The client learns if it was let go meanwhile.
     ///
     /// # Errors
     ///
     /// If memory allocation fails. It waits on then.
     fn make_waiting(
         &mut self,
-        key: Key,
+        request: OpenRequest,
         relays: TransportType,
         now: Instant,
     ) -> Result<(), AllocError>
         requires now_in_range { now ≤ 2 ^ 62 }
-        ensures ok { OnOk result (self.new ≡ waiting_made key relays now self.old) }
-        ensures err { OnErr result (WaitsOn key relays now self.old self.new) }
+        ensures ok { OnOk result (self.new ≡ waiting_made request relays now self.old) }
+        ensures err { OnErr result (WaitsOn request.key relays now self.old self.new) }
     {
+        let key = request.key;
         match make(&mut self.client, relays, key, now) {
             Made::Queued => {
+                let_go(&mut self.client, relays, key, request.is_kept);
                 self.notes.book.advance(key, Progress::Queued);
                 Ok(())
             }
