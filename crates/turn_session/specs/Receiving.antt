@@ -9,7 +9,7 @@ use Rattle.turn_client_api.specs.Receive.{is_from_server, recv_step}
 use Rattle.turn_client_api.specs.State.{State}
 use Rattle.turn_session_client.specs.Ending.{is_open}
 use Rattle.turn_session_client.specs.NotedState.{NotedState}
-use Rattle.turn_session_client.specs.Receiving.{ended_with, outcome_in}
+use Rattle.turn_session_client.specs.Receiving.{answers_nothing, ended_with, outcome_in}
 use Rattle.turn_session_client.specs.Receiving as Client
 use Rattle.turn_session_life.specs.Watch.{watched_response}
 use Rattle.turn_session.specs.Checking.{told_path}
@@ -38,7 +38,8 @@ path_step transport from to bytes now s =
 -- ---- all else is the client's
 
 abbrev pub noted_outcome : TransportType → SocketAddr → SocketAddr → List ℕ → ℕ → NotedState → Outcome
-noted_outcome transport from to bytes now s = outcome_in s.life.phase (recv_step transport from to bytes now s.client).0
+noted_outcome transport from to bytes now s =
+    outcome_in s.life.phase (answers_nothing to bytes s.client) (recv_step transport from to bytes now s.client).0
 
 -- what the client does not ignore shows that the path carries packets
 abbrev pub with_sign : Outcome → ℕ → SessionState → SessionState

@@ -21,6 +21,9 @@ impl<C: TurnClientApi> Session<C> {
     /// Over a stream a response is read if it comes by itself. While the session leaves nothing is noted, and after its end all input
     /// is returned.
     ///
+    /// A response that has another method than the request with its ID answers nothing, and is returned before the client takes
+    /// it: the request still awaits its response.
+    ///
     /// # Errors
     ///
     /// If memory allocation fails in the client, which has ended then, and the session with it. If it fails for what is noted, `poll`
