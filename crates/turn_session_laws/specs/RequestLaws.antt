@@ -6,6 +6,7 @@ use Rattle.turn_session_book.specs.declared.keys.Key.{Key}
 use Rattle.turn_session_book.specs.declared.replies.ErrorReply.{ErrorReply}
 use Rattle.turn_session_client.specs.Asking.{begun}
 use Rattle.turn_session_client.specs.NotedState.{NotedState}
+use Rattle.turn_session_client.specs.Permitting.{unpermitted_noted}
 use Rattle.turn_session_client.specs.Polling.{next_made}
 use Rattle.turn_session_client.specs.Receiving.{received}
 use Rattle.turn_session_client.specs.Waiting.{is_full}
@@ -15,6 +16,8 @@ use Rattle.turn_session_client.specs.declared.reading.Reading.{Reading}
 pub record FewUnsent : Type 0 where
   pub new : (key : Key) (now : ℕ) (s : NotedState) → is_full s ≡ true → (begun key now s).1.client ≡ s.client
   pub waiting : (now : ℕ) (s : NotedState) → is_full s ≡ true → next_made now s ≡ (false, s)
+  -- nor a permission that another request needs
+  pub permitting : (now : ℕ) (s : NotedState) → is_full s ≡ true → (unpermitted_noted now s).1.client ≡ s.client
 
 -- a refusal has the error that was received last, which is one that the client has accepted
 pub record RefusalsAreAccepted : Type 0 where

@@ -2,8 +2,9 @@
 
 ghost use Rattle.turn_session_laws.specs.RequestLaws.{FewUnsent, RefusalsAreAccepted};
 
-/// While eight requests of the client are queued and not sent, no request of the caller is made: a new one waits, and so do those that
-/// wait. What the session asks for by itself is not counted, a permission in doubt of the allocation.
+/// While eight requests of the client are queued and not sent, no request of the caller is made: a new one waits, and so do those
+/// that wait, and the permission that one of them needs. What the session asks for by itself is not counted, a permission in doubt
+/// of the allocation.
 pub fn few_unsent()
     ensures { FewUnsent }
 {}

@@ -10,10 +10,12 @@ use Rattle.turn_client_api.specs.Receive.{recv_step}
 use Rattle.turn_client_api.specs.State.{State}
 use Rattle.turn_client_api.specs.declared.poll.TurnPollRet.{TurnPollRet}
 use Rattle.turn_client_api.specs.declared.poll.TurnPollRet.TheVariants as Answered
-use Rattle.turn_session_book.specs.Book.{after_failure}
+use Rattle.turn_session_book.specs.Keys.{permission_for}
+use Rattle.turn_session_book.specs.OpenRequests.{first_closed, first_denied, first_unpermitted}
 use Rattle.turn_session_book.specs.declared.causes.Why.{Why}
 use Rattle.turn_session_book.specs.declared.causes.Why.TheVariants.{Closed, GrantSilent, OutOfMemory}
 use Rattle.turn_session_book.specs.declared.keys.Key.{Key}
+use Rattle.turn_session_book.specs.declared.keys.Key.TheVariants.{Permission, Channel, Connect}
 use Rattle.turn_session_book.specs.declared.open_requests.OpenRequest.{OpenRequest}
 use Rattle.turn_session_book.specs.declared.replies.ErrorReply.{ErrorReply}
 use Rattle.turn_session_life.specs.Heard.{has_hint}
@@ -28,13 +30,17 @@ use Rattle.turn_session_life.specs.declared.responses.Said.{Said}
 use Rattle.turn_session_life.specs.declared.responses.Said.TheVariants.{Granted, Denied, Nothing}
 use Rattle.turn_session_life.specs.declared.verdict.VerdictStep.{VerdictStep}
 use Rattle.turn_session_life.specs.declared.verdict.VerdictStep.TheVariants as Verdict
+use Rattle.turn_session_client.specs.Asking.{is_granted}
 use Rattle.turn_session_client.specs.Drain.{drained}
 use Rattle.turn_session_client.specs.Ending.{ended, is_opening, left, left_for}
-use Rattle.turn_session_client.specs.Expiring.{ExpiryWaits, first_expired}
+use Rattle.turn_session_client.specs.Expiring.{ClosedWaits, ExpiryWaits, closed_noted, closed_settled, expiry_noted, first_expired}
 use Rattle.turn_session_client.specs.Making.{made}
-use Rattle.turn_session_client.specs.NotedState.{NotedState, with_book}
-use Rattle.turn_session_client.specs.Polling.{AfterPoll, Closes, ExpiresOrGoesOn, IsCause, IsShort, MakesOrPolls, NextWaitsOn, Polls, PollsClient, PollsNoted, PollsRunning, WaitsOn, cause_noted, opened, silent_grant, verdict_noted, waiting, waiting_made}
-use Rattle.turn_session_client.specs.Receiving.{Receives, heard_step, is_taken, received, reply_for, with_hints, with_mapped, with_reply}
+use Rattle.turn_session_client.specs.Notes.{is_asked}
+use Rattle.turn_session_client.specs.NotedState.{NotedState}
+use Rattle.turn_session_client.specs.Permitting.{DeniedWaits, PermissionWaits, PermitWaits, UnpermittedWaits, denied_noted, is_blocked, permission_made}
+use Rattle.turn_session_client.specs.Permitting.{permission_taken, permit_noted, unpermitted_noted}
+use Rattle.turn_session_client.specs.Polling.{AfterPoll, Closes, ExpiredOrWent, ExpiresOrGoesOn, IsCause, IsShort, MakesOrPolls, NextWaitsOn, Polls, PollsClient, PollsNoted, PollsRunning, WaitsOn, cause_noted, opened, silent_grant, verdict_noted, waiting, waiting_made}
+use Rattle.turn_session_client.specs.Receiving.{Receives, answers_nothing, heard_step, is_taken, received, reply_for, with_hints, with_mapped, with_reply}
 use Rattle.turn_session_client.specs.Reading.{response_to}
 use Rattle.turn_session_client.specs.Waiting.{next_to_make}
 use Rattle.turn_session_client.specs.declared.making.Made.{Made}
@@ -103,10 +109,27 @@ runs-on transport from to bytes reading now was s running same =
     ∙ received-phase reading (reply_for reading (record was { client = step.1 })) (is_taken step.0) now (record was { client = step.1 }) in
     rw phase running
 
+-- one that is no response of the request changes nothing
+runs-at : (transport : TransportType) (from to : SocketAddr) (bytes : List ℕ) (now : ℕ) (was s : NotedState) (phase : Phase) (nothing : Bool)
+    → answers_nothing to bytes was.client ≡ nothing → is_running phase ≡ true → Receives transport from to bytes now (at phase was) s
+    → is_running s.life.phase ≡ true
+runs-at transport from to bytes now was s Opening true a running h =
+    let same : s ≡ at Opening was = rw a at h in rw (ap (λ (t : NotedState). t.life.phase) same) running
+runs-at transport from to bytes now was s Open true a running h =
+    let same : s ≡ at Open was = rw a at h in rw (ap (λ (t : NotedState). t.life.phase) same) running
+runs-at transport from to bytes now was s Opening false a running h =
+    let heard = rw a at h in runs-on transport from to bytes heard.0 now (at Opening was) s refl heard.2
+runs-at transport from to bytes now was s Open false a running h =
+    let heard = rw a at h in runs-on transport from to bytes heard.0 now (at Open was) s refl heard.2
+runs-at transport from to bytes now was s (Leaving leave) nothing a running h = cc
+runs-at transport from to bytes now was s (Over before) nothing a running h = cc
+
 received-at : (transport : TransportType) (from to : SocketAddr) (bytes : List ℕ) (now : ℕ) (was s : NotedState) (phase : Phase) → is_running phase ≡ true
     → Receives transport from to bytes now (at phase was) s → is_running s.life.phase ≡ true
-received-at transport from to bytes now was s Opening running h = runs-on transport from to bytes h.0 now (at Opening was) s refl h.2
-received-at transport from to bytes now was s Open running h = runs-on transport from to bytes h.0 now (at Open was) s refl h.2
+received-at transport from to bytes now was s Opening running h =
+    runs-at transport from to bytes now was s Opening (answers_nothing to bytes was.client) refl running h
+received-at transport from to bytes now was s Open running h =
+    runs-at transport from to bytes now was s Open (answers_nothing to bytes was.client) refl running h
 received-at transport from to bytes now was s (Leaving leave) running h = cc
 received-at transport from to bytes now was s (Over before) running h = cc
 
@@ -184,11 +207,11 @@ client-polled now was s answer why running (inr short) is =
 
 -- ---- a request that waits is made first
 
-made-keeps : (key : Key) (relays : TransportType) (now : ℕ) (s : NotedState) (p : Made × State) → made key relays now s.client ≡ p
-    → (waiting_made key relays now s).life ≡ s.life
-made-keeps key relays now s (Client.Queued, client) e = rw e refl
-made-keeps key relays now s (Client.Refused error, client) e = rw e refl
-made-keeps key relays now s (Client.NoMemory, client) e = rw e refl
+made-keeps : (r : OpenRequest) (relays : TransportType) (now : ℕ) (s : NotedState) (p : Made × State) → made r.key relays now s.client ≡ p
+    → (waiting_made r relays now s).life ≡ s.life
+made-keeps r relays now s (Client.Queued, client) e = rw e refl
+made-keeps r relays now s (Client.Refused error, client) e = rw e refl
+made-keeps r relays now s (Client.NoMemory, client) e = rw e refl
 
 waits-keeps : (key : Key) (relays : TransportType) (now : ℕ) (was s : NotedState) → WaitsOn key relays now was s → s.life ≡ was.life
 waits-keeps key relays now was s (inl same) = ap (λ (t : NotedState). t.life) same
@@ -208,21 +231,109 @@ makes now was s answer why (Some relays) (Some r) n running h is =
     t : NotedState
     t = relaying (Some relays) was
 
-    by : ((answer ≡ Answered.WaitUntil now) × (s ≡ waiting_made r.key relays now t)) ⊎ (IsShort now answer × NextWaitsOn now t s) → ⊥
-    by (inl one) = same-life was s why running (ap (λ (u : NotedState). u.life) one.1 ∙ made-keeps r.key relays now t (made r.key relays now t.client) refl) is
+    by : ((answer ≡ Answered.WaitUntil now) × (s ≡ waiting_made r relays now t)) ⊎ (IsShort now answer × NextWaitsOn now t s) → ⊥
+    by (inl one) = same-life was s why running (ap (λ (u : NotedState). u.life) one.1 ∙ made-keeps r relays now t (made r.key relays now t.client) refl) is
     by (inr short) = same-life was s why running (waits-keeps r.key relays now t s (rw (n, NextWaitsOn) at short.1)) is
 
--- ---- what has expired is noted before
+-- ---- what has expired is noted before, and what needs a permission
 
-expires : (now : ℕ) (was s : NotedState) (answer : TurnPollRet) (why : Why) (first : Option Key) → first_expired was ≡ first
-    → is_running was.life.phase ≡ true → ExpiresOrGoesOn now was s answer → cause_in s.life.phase ≡ Some why → IsOfClient now was why
-expires now was s answer why None f running h is = makes now was s answer why was.notes.relays (next_to_make was) refl running (rw f at h) is
-expires now was s answer why (Some key) f running h is = absurd (by (rw f at h))
-  where
-    by : ((answer ≡ Answered.WaitUntil now) × (s ≡ with_book (after_failure key None now was.notes.book) was)) ⊎ (IsShort now answer × ExpiryWaits was s) → ⊥
-    by (inl one) = same-life was s why running (ap (λ (u : NotedState). u.life) one.1) is
-    by (inr short) =
-        let same : s ≡ was = rw (f, ExpiryWaits) at short.1 in same-life was s why running (ap (λ (u : NotedState). u.life) same) is
+-- something is noted, and the life goes on, or nothing is
+abbrev Notes : NotedState → Bool × NotedState → Type 0
+Notes was (true, t) = t.life ≡ was.life
+Notes was (false, t) = t ≡ was
+
+taken-keeps : (key permission : Key) (s : NotedState) (is_question : Bool) → is_asked permission s.notes ≡ is_question
+    → (permission_taken key permission s).life ≡ s.life
+taken-keeps key permission s true asked = rw asked refl
+taken-keeps (Permission ip) permission s false asked = rw asked refl
+taken-keeps (Channel peer) permission s false asked = rw asked refl
+taken-keeps (Connect peer) permission s false asked = rw asked refl
+
+asked-keeps : (r : OpenRequest) (relays : TransportType) (now : ℕ) (s : NotedState) (p : Made × State) → made (permission_for r.key) relays now s.client ≡ p
+    → (permission_made r relays now s).life ≡ s.life
+asked-keeps r relays now s (Client.Queued, client) e = rw e refl
+asked-keeps r relays now s (Client.Refused error, client) e = rw e refl
+asked-keeps r relays now s (Client.NoMemory, client) e = rw e refl
+
+permits : (r : OpenRequest) (relays : TransportType) (now : ℕ) (s : NotedState) (is blocked : Bool) → is_granted (permission_for r.key) s ≡ is
+    → is_blocked (permission_for r.key) s ≡ blocked → Notes s (permit_noted r relays now s)
+permits r relays now s true blocked g b =
+    rw g (taken-keeps r.key (permission_for r.key) s (is_asked (permission_for r.key) s.notes) refl)
+permits r relays now s false true g b = rw (g, b) refl
+permits r relays now s false false g b = rw (g, b) (asked-keeps r relays now s (made (permission_for r.key) relays now s.client) refl)
+
+unpermitted : (now : ℕ) (s : NotedState) (relays : Option TransportType) (first : Option OpenRequest) → first_unpermitted s.notes.book.requests ≡ first
+    → Notes (relaying relays s) (unpermitted_noted now (relaying relays s))
+unpermitted now s None first f = refl
+unpermitted now s (Some relays) None f = rw f refl
+unpermitted now s (Some relays) (Some r) f =
+    let t = relaying (Some relays) s in
+    rw f (permits r relays now t (is_granted (permission_for r.key) t) (is_blocked (permission_for r.key) t) refl refl)
+
+denied-notes : (now : ℕ) (s : NotedState) (first : Option OpenRequest) → first_denied s.notes.book.requests ≡ first → Notes s (denied_noted now s)
+denied-notes now s (Some r) f = rw f refl
+denied-notes now s None f = rw f (unpermitted now s s.notes.relays (first_unpermitted s.notes.book.requests) refl)
+
+settled-keeps : (r : OpenRequest) (s : NotedState) (again : Bool) → r.is_repeated ≡ again → (closed_settled r s).life ≡ s.life
+settled-keeps r s true again = rw again refl
+settled-keeps r s false again = rw again refl
+
+closed-notes : (now : ℕ) (s : NotedState) (first : Option OpenRequest) → first_closed s.notes.book.requests ≡ first → Notes s (closed_noted now s)
+closed-notes now s (Some r) f = rw f (settled-keeps r s r.is_repeated refl)
+closed-notes now s None f = rw f (denied-notes now s (first_denied s.notes.book.requests) refl)
+
+expiry-notes : (now : ℕ) (s : NotedState) (first : Option Key) → first_expired s ≡ first → Notes s (expiry_noted now s)
+expiry-notes now s (Some key) f = rw f refl
+expiry-notes now s None f = rw f (closed-notes now s (first_closed s.notes.book.requests) refl)
+
+-- without memory the life goes on too
+permission-waits : (r : OpenRequest) (relays : TransportType) (now : ℕ) (was s : NotedState) → PermissionWaits r relays now was s → s.life ≡ was.life
+permission-waits r relays now was s (inl same) = ap (λ (t : NotedState). t.life) same
+permission-waits r relays now was s (inr refused) = ap (λ (t : NotedState). t.life) refused
+
+permit-waits : (r : OpenRequest) (relays : TransportType) (now : ℕ) (was s : NotedState) (is blocked : Bool) → is_granted (permission_for r.key) was ≡ is
+    → is_blocked (permission_for r.key) was ≡ blocked → PermitWaits r relays now was s → s.life ≡ was.life
+permit-waits r relays now was s true blocked g b h = let same : s ≡ was = rw g at h in ap (λ (t : NotedState). t.life) same
+permit-waits r relays now was s false true g b h = absurd (rw (g, b) at h)
+permit-waits r relays now was s false false g b h = permission-waits r relays now was s (rw (g, b) at h)
+
+unpermitted-waits : (now : ℕ) (was s : NotedState) (relays : Option TransportType) (first : Option OpenRequest)
+    → first_unpermitted was.notes.book.requests ≡ first → UnpermittedWaits now (relaying relays was) s → s.life ≡ was.life
+unpermitted-waits now was s None first f h = absurd h
+unpermitted-waits now was s (Some relays) None f h = absurd (rw f at h)
+unpermitted-waits now was s (Some relays) (Some r) f h =
+    let t = relaying (Some relays) was in
+    permit-waits r relays now t s (is_granted (permission_for r.key) t) (is_blocked (permission_for r.key) t) refl refl (rw f at h)
+
+denied-waits : (now : ℕ) (was s : NotedState) (first : Option OpenRequest) → first_denied was.notes.book.requests ≡ first → DeniedWaits now was s
+    → s.life ≡ was.life
+denied-waits now was s (Some r) f h = let same : s ≡ was = rw f at h in ap (λ (t : NotedState). t.life) same
+denied-waits now was s None f h =
+    unpermitted-waits now was s was.notes.relays (first_unpermitted was.notes.book.requests) refl (rw f at h)
+
+closed-waits : (now : ℕ) (was s : NotedState) (first : Option OpenRequest) → first_closed was.notes.book.requests ≡ first → ClosedWaits now was s
+    → s.life ≡ was.life
+closed-waits now was s (Some r) f h = let same : s ≡ was = rw f at h in ap (λ (t : NotedState). t.life) same
+closed-waits now was s None f h = denied-waits now was s (first_denied was.notes.book.requests) refl (rw f at h)
+
+expiry-waits : (now : ℕ) (was s : NotedState) (first : Option Key) → first_expired was ≡ first → ExpiryWaits now was s → s.life ≡ was.life
+expiry-waits now was s (Some key) f h = let same : s ≡ was = rw f at h in ap (λ (t : NotedState). t.life) same
+expiry-waits now was s None f h = closed-waits now was s (first_closed was.notes.book.requests) refl (rw f at h)
+
+went : (now : ℕ) (was s : NotedState) (answer : TurnPollRet) (why : Why) (p : Bool × NotedState) → Notes was p
+    → is_running was.life.phase ≡ true → ExpiredOrWent now was p s answer → cause_in s.life.phase ≡ Some why → IsOfClient now was why
+went now was s answer why (true, t) keeps running (inl one) is =
+    absurd (same-life was s why running (ap (λ (u : NotedState). u.life) one.1 ∙ keeps) is)
+went now was s answer why (true, t) keeps running (inr short) is =
+    absurd (same-life was s why running (expiry-waits now was s (first_expired was) refl short.1) is)
+went now was s answer why (false, t) same running h is =
+    let on : MakesOrPolls now was s answer = subst (λ (u : NotedState). MakesOrPolls now u s answer) same h in
+    makes now was s answer why was.notes.relays (next_to_make was) refl running on is
+
+expires : (now : ℕ) (was s : NotedState) (answer : TurnPollRet) (why : Why) → is_running was.life.phase ≡ true → ExpiresOrGoesOn now was s answer
+    → cause_in s.life.phase ≡ Some why → IsOfClient now was why
+expires now was s answer why running h is =
+    went now was s answer why (expiry_noted now was) (expiry-notes now was (first_expired was) refl) running h is
 
 -- ---- what ends it comes first
 
@@ -235,10 +346,10 @@ judged : (now : ℕ) (was s : NotedState) (answer : TurnPollRet) (why : Why) (ph
 judged now was s answer why Opening (Verdict.Ended other) running v h is =
     let ends = rw v at h in inl (v ∙ ap Verdict.Ended (sym (left-by now was s why other ends.1 is)))
 judged now was s answer why Opening (Verdict.WaitUntil time) running v h is =
-    inr (expires now (at Opening was) s answer why (first_expired was) refl refl (rw v at h) is)
+    inr (expires now (at Opening was) s answer why refl (rw v at h) is)
 judged now was s answer why Opening Verdict.Idle running v h is =
-    inr (expires now (at Opening was) s answer why (first_expired was) refl refl (rw v at h) is)
-judged now was s answer why Open step running v h is = inr (expires now (at Open was) s answer why (first_expired was) refl refl h is)
+    inr (expires now (at Opening was) s answer why refl (rw v at h) is)
+judged now was s answer why Open step running v h is = inr (expires now (at Open was) s answer why refl h is)
 judged now was s answer why (Leaving leave) step running v h is = cc
 judged now was s answer why (Over before) step running v h is = cc
 

@@ -8,9 +8,11 @@ use Rattle.turn_client_api.specs.State.{State}
 use Rattle.turn_client_api.specs.declared.event.TurnEvent.{TurnEvent}
 use Rattle.turn_client_api.specs.declared.event.TurnEvent.TheVariants.{AllocationCreated, AllocationCreateFailed, PermissionCreated, PermissionCreateFailed}
 use Rattle.turn_client_api.specs.declared.event.TurnEvent.TheVariants.{ChannelCreated, ChannelCreateFailed, TcpConnected, TcpConnectFailed}
-use Rattle.turn_session_book.specs.Book.{end_event, failure_event, outcome_event, relayed_event}
-use Rattle.turn_session_book.specs.Held.{is_kept_in}
-use Rattle.turn_session_book.specs.OpenRequests.{request_for}
+use Rattle.turn_session_book.specs.Book.{after_binding, after_connection, after_disconnection, end_event, failure_event, outcome_event, relayed_event}
+use Rattle.turn_session_book.specs.BookState.{BookState}
+use Rattle.turn_session_book.specs.Held.{is_held, is_kept_in}
+use Rattle.turn_session_book.specs.Keys.{permission_for}
+use Rattle.turn_session_book.specs.OpenRequests.{is_clients_in, request_for}
 use Rattle.turn_session_book.specs.Rests.{rest_in_force}
 use Rattle.turn_session_book.specs.declared.answers.Answer.{Answer}
 use Rattle.turn_session_book.specs.declared.answers.Answer.TheVariants as Answered
@@ -21,14 +23,15 @@ use Rattle.turn_session_book.specs.declared.events.Event.TheVariants as Events
 use Rattle.turn_session_book.specs.declared.keys.Key.{Key}
 use Rattle.turn_session_book.specs.declared.keys.Key.TheVariants.{Permission, Channel, Connect}
 use Rattle.turn_session_book.specs.declared.open_requests.OpenRequest.{OpenRequest}
+use Rattle.turn_session_book.specs.declared.open_requests.Progress.TheVariants.{Waiting}
 use Rattle.turn_session_book.specs.declared.replies.ErrorReply.{ErrorReply}
 use Rattle.turn_session_book.specs.declared.rests.Rest.{Rest}
-use Rattle.turn_session_client.specs.Asking.{Answers, answer_with, begun, is_granted, makes}
+use Rattle.turn_session_client.specs.Asking.{Answers, added, answer_with, begun, begun_over, is_granted, lacks_permission, makes}
 use Rattle.turn_session_client.specs.Drain.{all_noted, unnoted}
 use Rattle.turn_session_client.specs.Keeping.{keep_step}
 use Rattle.turn_session_client.specs.Making.{made}
 use Rattle.turn_session_client.specs.NotedState.{NotedState}
-use Rattle.turn_session_client.specs.Notes.{failed, granted, is_question, noted, question_failed}
+use Rattle.turn_session_client.specs.Notes.{failed, granted, is_question, noted, question_failed, without_question}
 use Rattle.turn_session_client.specs.Waiting.{must_wait}
 use Rattle.turn_session_client.specs.declared.making.Made.{Made}
 use Rattle.turn_session_client.specs.declared.making.Made.TheVariants as Client
@@ -89,9 +92,34 @@ permits key n told true = same (IsGranted key) n.book.events
 permits key n told false = grants key n
 
 refuses : (key : Key) (now : ℕ) (n : Notes) (is_asked : Bool)
-    → Grows (IsFailed n.reply key) n.book.events (if is_asked then question_failed key n else failed key now n).book.events
+    → Grows (IsFailed n.reply key) n.book.events (if is_asked then question_failed key n else without_question key (failed key now n)).book.events
 refuses key now n true = same (IsFailed n.reply key) n.book.events
 refuses key now n false = fails key now n
+
+-- a channel that lacks a permission has no outcome yet
+binds : (peer : SocketAddr) (b : BookState) (is_permitted : Bool) → is_held (permission_for (Channel peer)) b.held ≡ is_permitted
+    → Grows (IsGranted (Channel peer)) b.events (after_binding peer b).events
+binds peer b true held = rw held (
+  option_to_list (outcome_event (Channel peer) Granted (request_for (Channel peer) b.requests)),
+  refl,
+  settled-fits (Channel peer) (request_for (Channel peer) b.requests),
+)
+binds peer b false held = rw held (same (IsGranted (Channel peer)) b.events)
+
+-- nor has a connection of the peer
+connects : (key : Key) (b : BookState) (is_made : Bool) → is_clients_in key b.requests ≡ is_made
+    → Grows (IsGranted key) b.events (after_connection key b).events
+connects key b true made = rw made (
+  option_to_list (outcome_event key Granted (request_for key b.requests)),
+  refl,
+  settled-fits key (request_for key b.requests),
+)
+connects key b false made = rw made (same (IsGranted key) b.events)
+
+disconnects : (key : Key) (now : ℕ) (n : Notes) (is_made : Bool) → is_clients_in key n.book.requests ≡ is_made
+    → Grows (IsFailed n.reply key) n.book.events (after_disconnection key n.reply now n.book).events
+disconnects key now n true made = rw made (fails key now n)
+disconnects key now n false made = rw made (same (IsFailed n.reply key) n.book.events)
 
 relayed-fits : (relayed : SocketAddr) (mapped : Option SocketAddr) (is_first : Bool) → IsRelayed relayed mapped (relayed_event relayed mapped is_first)
 relayed-fits relayed mapped true = (refl, refl)
@@ -103,14 +131,10 @@ one (AllocationCreated transport relayed) now n =
 one (AllocationCreateFailed family) now n = (Events.FamilyFailed family n.reply ∷ [], refl, (refl, tt))
 one (PermissionCreated transport ip) now n = permits (Permission ip) n (Some (record { error = None })) (is_question (Permission ip) n)
 one (PermissionCreateFailed transport ip) now n = refuses (Permission ip) now n (is_question (Permission ip) n)
-one (ChannelCreated transport peer) now n =
-    let key = Channel peer in
-    (option_to_list (outcome_event key Granted (request_for key n.book.requests)), refl, settled-fits key (request_for key n.book.requests))
+one (ChannelCreated transport peer) now n = binds peer n.book (is_held (permission_for (Channel peer)) n.book.held) refl
 one (ChannelCreateFailed transport peer) now n = fails (Channel peer) now n
-one (TcpConnected peer) now n =
-    let key = Connect peer in
-    (option_to_list (outcome_event key Granted (request_for key n.book.requests)), refl, settled-fits key (request_for key n.book.requests))
-one (TcpConnectFailed peer) now n = fails (Connect peer) now n
+one (TcpConnected peer) now n = connects (Connect peer) n.book (is_clients_in (Connect peer) n.book.requests) refl
+one (TcpConnectFailed peer) now n = disconnects (Connect peer) now n (is_clients_in (Connect peer) n.book.requests) refl
 
 -- ---- the error and the mapped address stay
 
@@ -121,7 +145,7 @@ permits-keep : (key : Key) (n : Notes) (told : Option Told) (is_asked : Bool) �
 permits-keep key n told true = (refl, refl)
 permits-keep key n told false = (refl, refl)
 
-refuses-keep : (key : Key) (now : ℕ) (n : Notes) (is_asked : Bool) → Stays n (if is_asked then question_failed key n else failed key now n)
+refuses-keep : (key : Key) (now : ℕ) (n : Notes) (is_asked : Bool) → Stays n (if is_asked then question_failed key n else without_question key (failed key now n))
 refuses-keep key now n true = (refl, refl)
 refuses-keep key now n false = (refl, refl)
 
@@ -183,14 +207,19 @@ abbrev relaying : Option TransportType → NotedState → NotedState
 relaying relays s = record s { notes = record s.notes { relays = relays } }
 
 waits-or-makes : (key : Key) (relays : TransportType) (now : ℕ) (s : NotedState) (waits : Bool) → must_wait s ≡ waits
-    → (begun key now (relaying (Some relays) s)).0 ≡ Answered.Granted → ⊥
+    → (if must_wait s then added key Waiting s else makes key relays now s).0 ≡ Answered.Granted → ⊥
 waits-or-makes key relays now s true w is = ticket-granted _ (rw w at is)
-waits-or-makes key relays now s false w is =
-    let t = relaying (Some relays) s in makes-granted key relays now t (made key relays now s.client) refl (rw w at is)
+waits-or-makes key relays now s false w is = makes-granted key relays now s (made key relays now s.client) refl (rw w at is)
+
+begun-over-granted : (key : Key) (relays : TransportType) (now : ℕ) (s : NotedState) (lacks : Bool) → lacks_permission key relays s ≡ lacks
+    → (begun_over key relays now s).0 ≡ Answered.Granted → ⊥
+begun-over-granted key relays now s true l is = ticket-granted _ (rw l at is)
+begun-over-granted key relays now s false l is = waits-or-makes key relays now s (must_wait s) refl (rw l at is)
 
 begun-granted : (key : Key) (now : ℕ) (s : NotedState) (relays : Option TransportType) → (begun key now (relaying relays s)).0 ≡ Answered.Granted → ⊥
 begun-granted key now s None is = cc
-begun-granted key now s (Some relays) is = waits-or-makes key relays now s (must_wait s) refl is
+begun-granted key now s (Some relays) is =
+    let t = relaying (Some relays) s in begun-over-granted key relays now t (lacks_permission key relays t) refl is
 
 known-at : (key : Key) (now : ℕ) (answer : Answer) (was s : NotedState) (is : Bool) (request : Option OpenRequest) (rest : Option Rest)
     → Answers (answer_with is request rest) key now answer was s → answer ≡ Answered.Granted → is ≡ true

@@ -1,17 +1,24 @@
-use Rattle.std.proofs.Common.{◌≡◌, ℕ, ◌+◌, Bool, true, false, List, [], ◌∷◌, ◌++◌, Option, Some, None, refl, ap, ◌∙◌, arith}
+use Rattle.std.proofs.Common.{◌≡◌, ℕ, ◌+◌, Bool, true, false, List, [], ◌∷◌, ◌++◌, get_or, Option, Some, None, refl, sym, ap, ◌∙◌, arith}
 use Rattle.std.specs.List.{position, sum_by}
 use Rattle.std.specs.Prelude.{if◌then◌else◌, is_none, option_map, option_to_list}
-use Rattle.std.proofs.lemmas.List.Sums.{sum_by-append, sum_by-cons, sum_by-remove}
+use Rattle.std.proofs.lemmas.Option.{same_Some}
+use Rattle.std.proofs.lemmas.List.Sums.{sum_by-append, sum_by-cons, sum_by-remove, sum_by-set}
 use Rattle.std.specs.declared.net.socket_addr.SocketAddr.{SocketAddr}
+use Rattle.turn_stun.specs.declared.transport.TransportType.{TransportType}
+use Rattle.turn_client_api.specs.State.{State}
 use Rattle.turn_client_api.specs.declared.event.TurnEvent.{TurnEvent}
 use Rattle.turn_client_api.specs.declared.event.TurnEvent.TheVariants.{AllocationCreated, AllocationCreateFailed, PermissionCreated, PermissionCreateFailed}
 use Rattle.turn_client_api.specs.declared.event.TurnEvent.TheVariants.{ChannelCreated, ChannelCreateFailed, TcpConnected, TcpConnectFailed}
-use Rattle.turn_session_book.specs.Book.{after_failure, after_settlement, end_event, failure_event, failure_outcome, lost_outcome, outcome_event, relayed_event}
+use Rattle.turn_session_book.specs.Book.{after_binding, after_connection, after_disconnection, after_failure, after_grant, after_settlement}
+use Rattle.turn_session_book.specs.Book.{end_event, failure_event, failure_outcome, lost_outcome, outcome_event, relayed_event}
 use Rattle.turn_session_book.specs.BookState.{BookState}
-use Rattle.turn_session_book.specs.Held.{is_kept_in}
-use Rattle.turn_session_book.specs.OpenRequests.{is_for, new_request, request_for, without_request}
+use Rattle.turn_session_book.specs.First.{with_first}
+use Rattle.turn_session_book.specs.Held.{is_held, is_kept_in}
+use Rattle.turn_session_book.specs.Keys.{permission_for}
+use Rattle.turn_session_book.specs.OpenRequests.{awaits, denied, first_closed, first_denied, first_unpermitted, is_clients_in, is_for, new_request, progressed, repeated, request_for}
+use Rattle.turn_session_book.specs.OpenRequests.{with_denied, with_progress, with_repeated, with_resumed, without_request}
 use Rattle.turn_session_book.specs.declared.answers.Outcome.{Outcome}
-use Rattle.turn_session_book.specs.declared.answers.Outcome.TheVariants.{Granted}
+use Rattle.turn_session_book.specs.declared.answers.Outcome.TheVariants.{Granted, NotMade, NotBound}
 use Rattle.turn_session_book.specs.declared.causes.Why.{Why}
 use Rattle.turn_session_book.specs.declared.events.Event.{Event}
 use Rattle.turn_session_book.specs.declared.events.Event.TheVariants as Events
@@ -19,18 +26,24 @@ use Rattle.turn_session_book.specs.declared.keys.Key.{Key}
 use Rattle.turn_session_book.specs.declared.keys.Key.TheVariants.{Permission, Channel, Connect}
 use Rattle.turn_session_book.specs.declared.open_requests.OpenRequest.{OpenRequest}
 use Rattle.turn_session_book.specs.declared.open_requests.Progress.{Progress}
+use Rattle.turn_session_book.specs.declared.open_requests.Progress.TheVariants.{Waiting, Unpermitted, Permitting}
 use Rattle.turn_session_book.specs.declared.replies.ErrorReply.{ErrorReply}
-use Rattle.turn_session_book.proofs.FirstLemmas.{position-IsFirst, position-none, without_first-none, without_first-some}
+use Rattle.turn_session_book.proofs.FirstLemmas.{position-IsFirst, position-none, with_first-none, with_first-some, without_first-none, without_first-some}
 use Rattle.turn_session_life.specs.Life.{cause_in, ending_report, over_report}
 use Rattle.turn_session_life.specs.declared.life.Phase.{Phase}
 use Rattle.turn_session_life.specs.declared.life.Phase.TheVariants.{Opening, Open, Leaving, Over}
 use Rattle.turn_session_life.specs.declared.life.Report.{Report}
 use Rattle.turn_session_life.specs.declared.life.Report.TheVariants.{NotYet, Due, Done}
-use Rattle.turn_session_client.specs.Asking.{added}
+use Rattle.turn_session_client.specs.Asking.{added, is_granted}
 use Rattle.turn_session_client.specs.Drain.{all_noted, unnoted}
+use Rattle.turn_session_client.specs.Expiring.{closed_noted, closed_settled, expiry_noted, first_expired}
+use Rattle.turn_session_client.specs.Making.{made}
 use Rattle.turn_session_client.specs.NotedState.{NotedState}
-use Rattle.turn_session_client.specs.Notes.{failed, granted, is_question, noted, question_failed}
+use Rattle.turn_session_client.specs.Notes.{failed, granted, is_asked, is_question, noted, question_failed, without_question}
+use Rattle.turn_session_client.specs.Permitting.{denied_noted, is_blocked, permission_made, permission_taken, permit_noted, unpermitted_noted}
 use Rattle.turn_session_client.specs.Reporting.{ending_reported, heard_reported, noted_reported, or_next, over_reported, reported_end, reported_if, reported_outcome, reported_step}
+use Rattle.turn_session_client.specs.declared.making.Made.{Made}
+use Rattle.turn_session_client.specs.declared.making.Made.TheVariants as Client
 use Rattle.turn_session_client.specs.declared.notes.Notes.{Notes}
 use Rattle.turn_session_client.specs.declared.notes.Told.{Told}
 use Rattle.turn_session_laws.specs.OutcomeLaws.{has_ticket, is_new, is_outcome, outcomes_in, owed}
@@ -55,6 +68,38 @@ removed-at ticket key (r ∷ rs) (Some i) at =
 removed : (ticket : ℕ) (key : Key) (rs : List OpenRequest)
     → sum_by (has_ticket ticket) (without_request key rs) + tickets ticket (request_for key rs) ≡ sum_by (has_ticket ticket) rs
 removed ticket key rs = removed-at ticket key rs (position (is_for key) rs) refl
+
+-- ---- a request comes so far
+
+changed-at : (ticket : ℕ) (p : OpenRequest → Bool) (f : OpenRequest → OpenRequest) (rs : List OpenRequest) (place : Option ℕ)
+    → ((r : OpenRequest) → has_ticket ticket (f r) ≡ has_ticket ticket r) → position p rs ≡ place
+    → sum_by (has_ticket ticket) (with_first p f rs) ≡ sum_by (has_ticket ticket) rs
+changed-at ticket p f rs None keeps none = ap (sum_by (has_ticket ticket)) (with_first-none p f rs none)
+changed-at ticket p f [] (Some i) keeps at = absurd (omega (arith, (position-IsFirst p [] i at).within))
+changed-at ticket p f (r ∷ rs) (Some i) keeps at =
+    let first = position-IsFirst p (r ∷ rs) i at in
+    let x : OpenRequest = get_or (r ∷ rs) i r in
+    let is : x ≡ get_or (r ∷ rs) i x = same_Some x (get_or (r ∷ rs) i x) (sym (first.found r) ∙ first.found x) in
+    rw (with_first-some p f (r ∷ rs) i x at is) (omega (arith, sum_by-set (has_ticket ticket) (r ∷ rs) i (f x) r first.within, keeps x))
+
+changed : (ticket : ℕ) (p : OpenRequest → Bool) (f : OpenRequest → OpenRequest) (rs : List OpenRequest)
+    → ((r : OpenRequest) → has_ticket ticket (f r) ≡ has_ticket ticket r)
+    → sum_by (has_ticket ticket) (with_first p f rs) ≡ sum_by (has_ticket ticket) rs
+changed ticket p f rs keeps = changed-at ticket p f rs (position p rs) keeps refl
+
+resumes : (ticket : ℕ) (key : Key) (rs : List OpenRequest) → sum_by (has_ticket ticket) (with_resumed key rs) ≡ sum_by (has_ticket ticket) rs
+resumes ticket key rs = changed ticket (awaits key) (progressed Unpermitted) rs (λ r. refl)
+
+denies : (ticket : ℕ) (key : Key) (error : Option ErrorReply) (rs : List OpenRequest)
+    → sum_by (has_ticket ticket) (with_denied key error rs) ≡ sum_by (has_ticket ticket) rs
+denies ticket key error rs = changed ticket (awaits key) (denied error) rs (λ r. refl)
+
+progresses : (ticket : ℕ) (key : Key) (progress : Progress) (rs : List OpenRequest)
+    → sum_by (has_ticket ticket) (with_progress key progress rs) ≡ sum_by (has_ticket ticket) rs
+progresses ticket key progress rs = changed ticket (is_for key) (progressed progress) rs (λ r. refl)
+
+repeats : (ticket : ℕ) (key : Key) (rs : List OpenRequest) → sum_by (has_ticket ticket) (with_repeated key rs) ≡ sum_by (has_ticket ticket) rs
+repeats ticket key rs = changed ticket (is_for key) repeated rs (λ r. refl)
 
 -- ---- and has its outcome
 
@@ -88,6 +133,9 @@ settled-owes ticket key outcome b =
       sum_by-append (is_outcome ticket) b.events outcomes,
     )
 
+granted-owes : (ticket : ℕ) (key : Key) (b : BookState) → owed ticket (after_grant key b) ≡ owed ticket b
+granted-owes ticket key b = omega (arith, settled-owes ticket key Granted b, resumes ticket key (without_request key b.requests))
+
 failed-owes : (ticket : ℕ) (key : Key) (error : Option ErrorReply) (now : ℕ) (b : BookState) → owed ticket (after_failure key error now b) ≡ owed ticket b
 failed-owes ticket key error now b =
     let lost = option_to_list (end_event key error (is_kept_in key b.held)) in
@@ -95,21 +143,37 @@ failed-owes ticket key error now b =
     omega (
       arith,
       removed ticket key b.requests,
+      denies ticket key error (without_request key b.requests),
       fails ticket key error (request_for key b.requests),
       ends ticket key error (is_kept_in key b.held),
       sum_by-append (is_outcome ticket) (b.events ++ lost) outcomes,
       sum_by-append (is_outcome ticket) b.events lost,
     )
 
+binds-at : (ticket : ℕ) (peer : SocketAddr) (b : BookState) (is_permitted : Bool) → is_held (permission_for (Channel peer)) b.held ≡ is_permitted
+    → owed ticket (after_binding peer b) ≡ owed ticket b
+binds-at ticket peer b true held = rw held (granted-owes ticket (Channel peer) b)
+binds-at ticket peer b false held = rw held (omega (arith, progresses ticket (Channel peer) Unpermitted b.requests))
+
+connects-at : (ticket : ℕ) (key : Key) (b : BookState) (is_made : Bool) → is_clients_in key b.requests ≡ is_made
+    → owed ticket (after_connection key b) ≡ owed ticket b
+connects-at ticket key b true made = rw made (settled-owes ticket key Granted b)
+connects-at ticket key b false made = rw made refl
+
+disconnects-at : (ticket : ℕ) (key : Key) (error : Option ErrorReply) (now : ℕ) (b : BookState) (is_made : Bool) → is_clients_in key b.requests ≡ is_made
+    → owed ticket (after_disconnection key error now b) ≡ owed ticket b
+disconnects-at ticket key error now b true made = rw made (failed-owes ticket key error now b)
+disconnects-at ticket key error now b false made = rw made refl
+
 -- ---- events of the client
 
 permits : (ticket : ℕ) (key : Key) (n : Notes) (told : Option Told) (is_asked : Bool)
     → owed ticket (if is_asked then record n { told = told } else granted key n).book ≡ owed ticket n.book
 permits ticket key n told true = refl
-permits ticket key n told false = settled-owes ticket key Granted n.book
+permits ticket key n told false = granted-owes ticket key n.book
 
 refuses : (ticket : ℕ) (key : Key) (now : ℕ) (n : Notes) (is_asked : Bool)
-    → owed ticket (if is_asked then question_failed key n else failed key now n).book ≡ owed ticket n.book
+    → owed ticket (if is_asked then question_failed key n else without_question key (failed key now n)).book ≡ owed ticket n.book
 refuses ticket key now n true = refl
 refuses ticket key now n false = failed-owes ticket key n.reply now n.book
 
@@ -128,14 +192,73 @@ one ticket (AllocationCreateFailed family) now n = pushed ticket (Events.FamilyF
 one ticket (PermissionCreated transport ip) now n =
     permits ticket (Permission ip) n (Some (record { error = None })) (is_question (Permission ip) n)
 one ticket (PermissionCreateFailed transport ip) now n = refuses ticket (Permission ip) now n (is_question (Permission ip) n)
-one ticket (ChannelCreated transport peer) now n = settled-owes ticket (Channel peer) Granted n.book
+one ticket (ChannelCreated transport peer) now n =
+    binds-at ticket peer n.book (is_held (permission_for (Channel peer)) n.book.held) refl
 one ticket (ChannelCreateFailed transport peer) now n = failed-owes ticket (Channel peer) n.reply now n.book
-one ticket (TcpConnected peer) now n = settled-owes ticket (Connect peer) Granted n.book
-one ticket (TcpConnectFailed peer) now n = failed-owes ticket (Connect peer) n.reply now n.book
+one ticket (TcpConnected peer) now n = connects-at ticket (Connect peer) n.book (is_clients_in (Connect peer) n.book.requests) refl
+one ticket (TcpConnectFailed peer) now n =
+    disconnects-at ticket (Connect peer) n.reply now n.book (is_clients_in (Connect peer) n.book.requests) refl
 
 all : (ticket : ℕ) (causes : List TurnEvent) (now : ℕ) (n : Notes) → owed ticket (all_noted causes now n).book ≡ owed ticket n.book
 all ticket [] now n = refl
 all ticket (cause ∷ causes) now n = all ticket causes now (noted cause now n) ∙ one ticket cause now n
+
+-- ---- what happens without an event
+
+taken-owes : (ticket : ℕ) (key permission : Key) (s : NotedState) (is_question : Bool) → is_asked permission s.notes ≡ is_question
+    → owed ticket (permission_taken key permission s).notes.book ≡ owed ticket s.notes.book
+taken-owes ticket key permission s true asked = rw asked (granted-owes ticket permission s.notes.book)
+taken-owes ticket (Permission ip) permission s false asked = rw asked (settled-owes ticket (Permission ip) Granted s.notes.book)
+taken-owes ticket (Channel peer) permission s false asked = rw asked (settled-owes ticket (Channel peer) Granted s.notes.book)
+taken-owes ticket (Connect peer) permission s false asked =
+    rw asked (omega (arith, progresses ticket (Connect peer) Waiting s.notes.book.requests))
+
+made-owes : (ticket : ℕ) (r : OpenRequest) (relays : TransportType) (now : ℕ) (s : NotedState) (p : Made × State)
+    → made (permission_for r.key) relays now s.client ≡ p → owed ticket (permission_made r relays now s).notes.book ≡ owed ticket s.notes.book
+made-owes ticket r relays now s (Client.Queued, client) e = rw e (omega (arith, progresses ticket r.key Permitting s.notes.book.requests))
+made-owes ticket r relays now s (Client.Refused error, client) e = rw e (settled-owes ticket r.key (NotMade error) s.notes.book)
+made-owes ticket r relays now s (Client.NoMemory, client) e = rw e refl
+
+permitted-owes : (ticket : ℕ) (r : OpenRequest) (relays : TransportType) (now : ℕ) (s : NotedState) (is blocked : Bool)
+    → is_granted (permission_for r.key) s ≡ is → is_blocked (permission_for r.key) s ≡ blocked
+    → owed ticket (permit_noted r relays now s).1.notes.book ≡ owed ticket s.notes.book
+permitted-owes ticket r relays now s true blocked g b =
+    rw g (taken-owes ticket r.key (permission_for r.key) s (is_asked (permission_for r.key) s.notes) refl)
+permitted-owes ticket r relays now s false true g b = rw (g, b) refl
+permitted-owes ticket r relays now s false false g b =
+    rw (g, b) (made-owes ticket r relays now s (made (permission_for r.key) relays now s.client) refl)
+
+abbrev relaying : Option TransportType → NotedState → NotedState
+relaying relays s = record s { notes = record s.notes { relays = relays } }
+
+unpermitted-owes : (ticket now : ℕ) (s : NotedState) (relays : Option TransportType) (first : Option OpenRequest)
+    → first_unpermitted s.notes.book.requests ≡ first
+    → owed ticket (unpermitted_noted now (relaying relays s)).1.notes.book ≡ owed ticket s.notes.book
+unpermitted-owes ticket now s None first f = refl
+unpermitted-owes ticket now s (Some relays) None f = rw f refl
+unpermitted-owes ticket now s (Some relays) (Some r) f =
+    let t = relaying (Some relays) s in
+    rw f (permitted-owes ticket r relays now t (is_granted (permission_for r.key) t) (is_blocked (permission_for r.key) t) refl refl)
+
+denial-owes : (ticket now : ℕ) (s : NotedState) (first : Option OpenRequest) → first_denied s.notes.book.requests ≡ first
+    → owed ticket (denied_noted now s).1.notes.book ≡ owed ticket s.notes.book
+denial-owes ticket now s (Some r) f = rw f (settled-owes ticket r.key (failure_outcome r.error None) s.notes.book)
+denial-owes ticket now s None f = rw f (unpermitted-owes ticket now s s.notes.relays (first_unpermitted s.notes.book.requests) refl)
+
+again-owes : (ticket : ℕ) (r : OpenRequest) (s : NotedState) (again : Bool) → r.is_repeated ≡ again
+    → owed ticket (closed_settled r s).notes.book ≡ owed ticket s.notes.book
+again-owes ticket r s true again = rw again (settled-owes ticket r.key NotBound s.notes.book)
+again-owes ticket r s false again = rw again (omega (arith, repeats ticket r.key s.notes.book.requests))
+
+closed-owes : (ticket now : ℕ) (s : NotedState) (first : Option OpenRequest) → first_closed s.notes.book.requests ≡ first
+    → owed ticket (closed_noted now s).1.notes.book ≡ owed ticket s.notes.book
+closed-owes ticket now s (Some r) f = rw f (again-owes ticket r s r.is_repeated refl)
+closed-owes ticket now s None f = rw f (denial-owes ticket now s (first_denied s.notes.book.requests) refl)
+
+expired-owes : (ticket now : ℕ) (s : NotedState) (first : Option Key) → first_expired s ≡ first
+    → owed ticket (expiry_noted now s).1.notes.book ≡ owed ticket s.notes.book
+expired-owes ticket now s (Some key) f = rw f (failed-owes ticket key None now s.notes.book)
+expired-owes ticket now s None f = rw f (closed-owes ticket now s (first_closed s.notes.book.requests) refl)
 
 -- ---- a new request
 
@@ -253,6 +376,7 @@ pub returns : goal.returns
 returns c = record {
   added = λ ticket key progress s. added-owes ticket key progress s (request_for key s.notes.book.requests) refl;
   noted = λ ticket now s. all ticket (unnoted s) now s.notes;
+  expired = λ ticket now s. expired-owes ticket now s (first_expired s) refl;
   failed = failed-owes;
   settled = settled-owes;
   reported = reported-pays;

@@ -7,6 +7,7 @@ use Rattle.turn_client_api.specs.Calls.{send_to_step}
 use Rattle.turn_client_api.specs.Payloads.{Outcome}
 use Rattle.turn_client_api.specs.Receive.{recv_step}
 use Rattle.turn_client_api.specs.State.{State}
+use Rattle.turn_session_book.specs.Keys.{same_peer}
 use Rattle.turn_session_book.specs.declared.replies.ErrorReply.{ErrorReply}
 use Rattle.turn_session_life.specs.Life.{is_running}
 use Rattle.turn_session_life.specs.declared.life.Phase.{Phase}
@@ -15,8 +16,8 @@ use Rattle.turn_session_client.specs.Answering.{is_channel_data}
 use Rattle.turn_session_client.specs.Drain.{drained}
 use Rattle.turn_session_client.specs.Ending.{is_open, is_over}
 use Rattle.turn_session_client.specs.NotedState.{NotedState}
-use Rattle.turn_session_client.specs.Reading.{IsReading}
-use Rattle.turn_session_client.specs.Receiving.{heard_step, is_taken, outcome_in, received, reply_for}
+use Rattle.turn_session_client.specs.Reading.{IsReading, is_foreign}
+use Rattle.turn_session_client.specs.Receiving.{answers_nothing, heard_step, is_taken, outcome_in, received, reply_for}
 use Rattle.turn_session_client.specs.Receiving as Client
 use Rattle.turn_session_client.specs.Sending.{sent_step}
 use Rattle.turn_session_client.specs.declared.reading.Reading.{Reading}
@@ -37,11 +38,24 @@ passes transport from to bytes now s channel = elim (cases_Bool (is_open s.noted
   | inr is_not ↦ rw is_not refl
 ]
 
-before-end : (phase : Phase) (outcome : Outcome) → is_over phase ≡ false → outcome_in phase outcome ≡ outcome
+before-end : (phase : Phase) (outcome : Outcome) → is_over phase ≡ false → outcome_in phase false outcome ≡ outcome
 before-end Opening outcome running = refl
 before-end Open outcome running = refl
 before-end (Leaving leave) outcome running = refl
 before-end (Over why) outcome running = cc
+
+and-false : (a : Bool) → a && false ≡ false
+and-false true = refl
+and-false false = refl
+
+-- nor does it answer a request by another method
+is-no-answer : (to : SocketAddr) (bytes : List ℕ) (client : State) → is_channel_data bytes ≡ true → answers_nothing to bytes client ≡ false
+is-no-answer to bytes client channel =
+    let no : is_foreign bytes client ≡ false = rw channel refl in rw no (and-false (same_peer to client.local))
+
+taken-in : (to : SocketAddr) (bytes : List ℕ) (client : State) (phase : Phase) (outcome : Outcome) → is_channel_data bytes ≡ true → is_over phase ≡ false
+    → outcome_in phase (answers_nothing to bytes client) outcome ≡ outcome
+taken-in to bytes client phase outcome channel running = rw (is-no-answer to bytes client channel) (before-end phase outcome running)
 
 is-running : (phase : Phase) → is_running phase ≡ true → is_over phase ≡ false
 is-running Opening running = refl
@@ -52,7 +66,8 @@ is-running (Over why) running = cc
 answers : (transport : TransportType) (from to : SocketAddr) (bytes : List ℕ) (now : ℕ) (s : SessionState) → is_channel_data bytes ≡ true
     → is_over s.noted.life.phase ≡ false → outcome_after transport from to bytes now s ≡ (recv_step transport from to bytes now s.noted.client).0
 answers transport from to bytes now s channel running =
-    rw (passes transport from to bytes now s channel) (before-end s.noted.life.phase (recv_step transport from to bytes now s.noted.client).0 running)
+    let step = recv_step transport from to bytes now s.noted.client in
+    rw (passes transport from to bytes now s channel) (taken-in to bytes s.noted.client s.noted.life.phase step.0 channel running)
 
 -- ---- nothing of it is noted
 
@@ -80,9 +95,11 @@ receives-at : (transport : TransportType) (from to : SocketAddr) (bytes : List �
     → Client.Receives transport from to bytes now (at phase was) s
     → drained now s ≡ drained now (record (at phase was) { client = (recv_step transport from to bytes now was.client).1 })
 receives-at transport from to bytes now was s Opening running channel ignored h =
-    notes-nothing transport from to bytes now (at Opening was) s h.0 channel ignored h.1 h.2
+    let heard = rw (is-no-answer to bytes was.client channel) at h in
+    notes-nothing transport from to bytes now (at Opening was) s heard.0 channel ignored heard.1 heard.2
 receives-at transport from to bytes now was s Open running channel ignored h =
-    notes-nothing transport from to bytes now (at Open was) s h.0 channel ignored h.1 h.2
+    let heard = rw (is-no-answer to bytes was.client channel) at h in
+    notes-nothing transport from to bytes now (at Open was) s heard.0 channel ignored heard.1 heard.2
 receives-at transport from to bytes now was s (Leaving leave) running channel ignored h = cc
 receives-at transport from to bytes now was s (Over why) running channel ignored h = cc
 
@@ -97,7 +114,7 @@ receives : (transport : TransportType) (from to : SocketAddr) (bytes : List ℕ)
 receives transport from to bytes now was s channel running ignored h =
     let step = recv_step transport from to bytes now was.noted.client in
     let passed : Passes transport from to bytes now was s = rw (passes transport from to bytes now was channel) at h in
-    let outcome = before-end was.noted.life.phase step.0 (is-running was.noted.life.phase running) in (
+    let outcome = taken-in to bytes was.noted.client was.noted.life.phase step.0 channel (is-running was.noted.life.phase running) in (
       passed.1 ∙ ap (λ (o : Outcome). with_sign o now (with_noted s.noted was)) outcome,
       receives-at transport from to bytes now was.noted s.noted was.noted.life.phase running channel ignored passed.0,
     )
