@@ -1,6 +1,6 @@
 //! What a session notes: requests that have one outcome each, what was granted, and what rests.
 
-use crate::fixture::{at, check, ip, peer, permission, refusal};
+use crate::fixture::{at, check, ip, peer, permission, refusal, reports_alone};
 use std::alloc::{AllocError, Global};
 use std::net::SocketAddr;
 use std::process::Abort;
@@ -14,12 +14,6 @@ use turn_session_book::replies::{MAX_PHRASE, Phrase};
 use turn_session_book::rests::Rest;
 use turn_stun::instant::Instant;
 use turn_types::AddressFamily;
-
-/// Asserts that this is the next event, and the only one.
-fn reports_alone(rt: &impl Abort, book: &mut Book, event: Event, case: u32) {
-    check(rt, book.next_event() == Some(event), case);
-    check(rt, book.next_event().is_none(), case);
-}
 
 /// Asserts that a request for this key has one outcome, which answers all who asked for it.
 fn has_one_outcome(rt: &impl Abort, book: &mut Book, key: Key, case: u32) -> Result<(), Fail> {

@@ -6,6 +6,8 @@ ghost use Rattle.std.specs.Prelude.{◌≤◌, ◌^◌};
 
 use std::net::{IpAddr, Ipv4Addr, SocketAddr};
 use std::process::Abort;
+use turn_session_book::book::Book;
+use turn_session_book::events::Event;
 use turn_session_book::keys::Key;
 use turn_session_book::replies::{ErrorReply, Phrase};
 use turn_stun::instant::Instant;
@@ -13,6 +15,12 @@ use turn_stun::instant::Instant;
 /// Asserts that this case holds.
 pub(crate) fn check(rt: &impl Abort, is_so: bool, case: u32) {
     assert!(rt; is_so, "case {case}");
+}
+
+/// Asserts that this is the next event of the book, and the only one.
+pub(crate) fn reports_alone(rt: &impl Abort, book: &mut Book, event: Event, case: u32) {
+    check(rt, book.next_event() == Some(event), case);
+    check(rt, book.next_event().is_none(), case);
 }
 
 /// This many milliseconds after the start.

@@ -13,3 +13,5 @@ mod book;
 mod fixture;
 #[cfg(test)]
 mod path;
+#[cfg(test)]
+mod permissions;

@@ -1,0 +1,123 @@
+//! Requests that need a permission: a channel (RFC 8656, section 12), and a data connection (RFC 6062, section 4.3).
+
+use crate::fixture::{at, check, peer, permission, refusal, reports_alone};
+use std::alloc::{AllocError, Global};
+use std::test::Fail;
+use turn_session_book::answers::Outcome;
+use turn_session_book::book::Book;
+use turn_session_book::events::Event;
+use turn_session_book::keys::Key;
+use turn_session_book::open_requests::Progress;
+
+/// The peer of the channel: 10.0.0.3.
+const PEER: u8 = 3;
+
+/// A book with a channel that was requested as 1, and which the server has bound without a permission.
+fn bound(alloc: Global) -> Result<Book, AllocError> {
+    let mut book = Book::new(alloc);
+    let _ticket = book.add(1, Key::Channel(peer(PEER)), Progress::Queued)?;
+    book.bound(peer(PEER))?;
+    Ok(book)
+}
+
+/// Whether its channel is the next request whose permission is to be requested.
+fn is_unpermitted(book: &Book) -> bool {
+    match book.first_unpermitted() {
+        Some(request) => request.key == Key::Channel(peer(PEER)),
+        None => false,
+    }
+}
+
+#[test]
+fn a_channel_that_is_bound_awaits_its_permission(rt: HostRuntime) -> Result<(), Fail> {
+    let mut book = bound(rt.alloc())?;
+    let key = Key::Channel(peer(PEER));
+    check(&rt, book.next_event().is_none() && book.is_held(key), 0);
+    check(&rt, is_unpermitted(&book), 1);
+    book.advance(key, Progress::Permitting);
+    check(&rt, !is_unpermitted(&book), 2);
+    book.granted(permission(PEER))?;
+    check(&rt, is_unpermitted(&book), 3);
+    Ok(())
+}
+
+#[test]
+fn a_channel_whose_permission_was_granted_before_has_its_outcome(
+    rt: HostRuntime,
+) -> Result<(), Fail> {
+    let mut book = Book::new(rt.alloc());
+    let key = Key::Channel(peer(PEER));
+    book.granted(permission(PEER))?;
+    check(&rt, book.add(1, key, Progress::Queued)? == 1, 0);
+    book.bound(peer(PEER))?;
+    reports_alone(&rt, &mut book, Event::Outcome(1, key, Outcome::Granted), 1);
+    Ok(())
+}
+
+// What the client ignores later is not why the permission was refused.
+#[test]
+fn a_channel_whose_permission_is_refused_has_that_error(rt: HostRuntime) -> Result<(), Fail> {
+    let mut book = bound(rt.alloc())?;
+    let key = Key::Channel(peer(PEER));
+    book.advance(key, Progress::Permitting);
+    book.failed(permission(PEER), Some(refusal(403)), at(0))?;
+    book.hint(key, refusal(401));
+    match book.first_denied() {
+        Some(request) => book.denied(request, at(0))?,
+        None => check(&rt, false, 0),
+    }
+    let outcome = Outcome::Refused(refusal(403));
+    reports_alone(&rt, &mut book, Event::Outcome(1, key, outcome), 1);
+    check(&rt, book.is_held(key), 2);
+    check(&rt, book.rest_of(key, at(4_999)).is_some(), 3);
+    check(&rt, book.rest_of(key, at(5_000)).is_none(), 4);
+    Ok(())
+}
+
+#[test]
+fn a_permission_that_was_let_go_before_its_grant_is_not_kept(rt: HostRuntime) -> Result<(), Fail> {
+    let mut book = bound(rt.alloc())?;
+    book.advance(Key::Channel(peer(PEER)), Progress::Permitting);
+    book.mark(permission(PEER), false);
+    book.granted(permission(PEER))?;
+    check(&rt, book.is_held(permission(PEER)), 0);
+    check(&rt, !book.is_kept(permission(PEER)), 1);
+    Ok(())
+}
+
+#[test]
+fn a_data_connection_of_the_peer_is_no_outcome(rt: HostRuntime) -> Result<(), Fail> {
+    let mut book = Book::new(rt.alloc());
+    let key = Key::Connect(peer(4));
+    check(&rt, book.add(1, key, Progress::Unpermitted)? == 1, 0);
+    book.connected(key)?;
+    book.disconnected(key, Some(refusal(447)), at(0))?;
+    check(&rt, book.next_event().is_none(), 1);
+    book.advance(key, Progress::Queued);
+    book.disconnected(key, Some(refusal(447)), at(0))?;
+    let outcome = Outcome::Refused(refusal(447));
+    reports_alone(&rt, &mut book, Event::Outcome(1, key, outcome), 2);
+    Ok(())
+}
+
+#[test]
+fn a_data_connection_that_is_closed_unbound_is_requested_once_more(
+    rt: HostRuntime,
+) -> Result<(), Fail> {
+    let mut book = Book::new(rt.alloc());
+    let key = Key::Connect(peer(4));
+    check(&rt, book.add(1, key, Progress::Queued)? == 1, 0);
+    book.open(key, peer(9));
+    book.close(peer(8));
+    check(&rt, book.first_closed().is_none(), 1);
+    book.close(peer(9));
+    check(&rt, book.first_closed().is_some(), 2);
+    book.repeat(key);
+    check(&rt, book.first_closed().is_none(), 3);
+    check(
+        &rt,
+        matches!(book.first_unpermitted(), Some(request) if request.is_repeated),
+        4,
+    );
+    Ok(())
+}
