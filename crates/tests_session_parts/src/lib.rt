@@ -1,4 +1,5 @@
-//! Tests of `turn_session_book` and `turn_session_path`: what a session notes, and how it checks its path, without a client.
+//! Tests of `turn_session_book`, `turn_session_idle` and `turn_session_path`: what a session notes, which peers are idle, and how it
+//! checks its path, without a client.
 //!
 //! To run them, unproved, in this folder:
 //!
@@ -11,6 +12,8 @@
 mod book;
 #[cfg(test)]
 mod fixture;
+#[cfg(test)]
+mod idle;
 #[cfg(test)]
 mod path;
 #[cfg(test)]

@@ -1,0 +1,4 @@
+pub mod IdlePeers
+pub mod IdleState
+pub mod Usage
+pub mod Usages
