@@ -1,7 +1,7 @@
 -- The requests of the caller that have no outcome yet.
 use Rattle.std.specs.declared.net.socket_addr.SocketAddr.{SocketAddr}
 use Rattle.std.specs.Prelude.{ℕ, ◌-◌, ◌&&◌, Bool, true, false, not, if◌then◌else◌, List, [], ◌∷◌, ◌++◌, find, length, slice_get, take}
-use Rattle.std.specs.Prelude.{Option, Some, None}
+use Rattle.std.specs.Prelude.{Option, Some, None, is_none}
 use Rattle.turn_session_book.specs.First.{with_first, without_first}
 use Rattle.turn_types.specs.declared.family.AddressFamily.{AddressFamily}
 use Rattle.turn_session_book.specs.Keys.{is_in, permission_for, same_key, same_peer}
@@ -172,9 +172,6 @@ abbrev pub is_unpermitted : Progress → Bool
 is_unpermitted Unpermitted = true
 is_unpermitted _ = false
 
-abbrev pub first_unpermitted : List OpenRequest → Option OpenRequest
-first_unpermitted requests = find (λ r. is_unpermitted r.progress) requests
-
 abbrev pub is_permitting : Progress → Bool
 is_permitting Permitting = true
 is_permitting _ = false
@@ -185,6 +182,14 @@ awaits permission r = is_permitting r.progress && needs permission r
 
 abbrev pub first_awaiting : Key → List OpenRequest → Option OpenRequest
 first_awaiting permission requests = find (awaits permission) requests
+
+-- its permission is to be requested, and is not requested for another
+abbrev pub is_unrequested : List OpenRequest → OpenRequest → Bool
+is_unrequested requests r = is_unpermitted r.progress && is_none (first_awaiting (permission_for r.key) requests)
+
+-- those that share a permission with another wait for it, and hold up no other peer
+abbrev pub first_unpermitted : List OpenRequest → Option OpenRequest
+first_unpermitted requests = find (is_unrequested requests) requests
 
 -- once it is granted, the request goes on
 abbrev pub with_resumed : Key → List OpenRequest → List OpenRequest

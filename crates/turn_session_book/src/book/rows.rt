@@ -152,7 +152,7 @@ impl Book {
         self.requests.repeat(key);
     }
 
-    /// The first request whose permission is to be requested.
+    /// The first request whose permission is to be requested, and is not requested for another.
     pub fn first_unpermitted(&self) -> Option<OpenRequest>
         ensures { result ≡ first_unpermitted self.now.requests }
     {

@@ -4,7 +4,7 @@ ghost use Rattle.std.specs.Prelude.{◌≡◌};
 ghost use Rattle.std.specs.List.{position};
 ghost use Rattle.turn_session_book.specs.OpenRequests.{awaits, first_awaiting, first_closed, first_denied, first_made};
 ghost use Rattle.turn_session_book.specs.OpenRequests.{first_needing, first_unpermitted, first_waiting, is_closed, is_clients};
-ghost use Rattle.turn_session_book.specs.OpenRequests.{is_clients_in, is_denied, is_made_in, is_unpermitted, is_waiting, needs};
+ghost use Rattle.turn_session_book.specs.OpenRequests.{is_clients_in, is_denied, is_made_in, is_unrequested, is_waiting, needs};
 
 use crate::keys::{Key, is_in, permission_for};
 use crate::open_requests::{OpenRequest, OpenRequests, Progress};
@@ -51,7 +51,7 @@ impl OpenRequests {
         }
     }
 
-    /// The first request whose permission is to be requested.
+    /// The first request whose permission is to be requested, and is not requested for another.
     pub fn first_unpermitted(&self) -> Option<OpenRequest>
         ensures { result ≡ first_unpermitted self.now }
     {
@@ -118,11 +118,21 @@ impl OpenRequests {
             .position(|request| matches!(request.progress, Progress::Closed))
     }
 
-    /// The place of the first request whose permission is to be requested.
+    /// The place of the first request whose permission is to be requested, and is not requested for another.
     fn unpermitted_place(&self) -> Option<usize>
-        ensures { result ≡ position (λ r. is_unpermitted r.progress) self.now }
+        ensures { result ≡ position (is_unrequested self.now) self.now }
     {
-        self.requests.iter().position(|request| matches!(request.progress, Progress::Unpermitted))
+        self.requests
+            .iter()
+            .position(|request| self.is_unrequested(request))
+    }
+
+    /// Whether the permission for this request is to be requested, and is not requested for another.
+    fn is_unrequested(&self, request: &OpenRequest) -> bool
+        ensures { result ≡ is_unrequested self.now request.now }
+    {
+        matches!(request.progress, Progress::Unpermitted)
+            && self.first_awaiting(permission_for(request.key)).is_none()
     }
 
     /// The place of the first request whose permission was refused.
