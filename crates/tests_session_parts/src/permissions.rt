@@ -1,7 +1,8 @@
 //! Requests that need a permission: a channel (RFC 8656, section 12), and a data connection (RFC 6062, section 4.3).
 
-use crate::fixture::{at, check, peer, permission, refusal, reports_alone};
+use crate::fixture::{at, check, ip, peer, permission, refusal, reports_alone};
 use std::alloc::{AllocError, Global};
+use std::net::SocketAddr;
 use std::test::Fail;
 use turn_session_book::answers::Outcome;
 use turn_session_book::book::Book;
@@ -22,10 +23,29 @@ fn bound(alloc: Global) -> Result<Book, AllocError> {
 
 /// Whether its channel is the next request whose permission is to be requested.
 fn is_unpermitted(book: &Book) -> bool {
+    is_next(book, Key::Channel(peer(PEER)))
+}
+
+/// Whether this is the next request whose permission is to be requested.
+fn is_next(book: &Book, key: Key) -> bool {
     match book.first_unpermitted() {
-        Some(request) => request.key == Key::Channel(peer(PEER)),
+        Some(request) => request.key == key,
         None => false,
     }
+}
+
+/// A data connection to 10.0.0.x, at this port.
+fn connection(last: u8, port: u16) -> Key {
+    Key::Connect(SocketAddr::new(ip(last), port))
+}
+
+/// A book with three data connections that need permissions: two to 10.0.0.4, and then one to 10.0.0.5.
+fn unpermitted(alloc: Global) -> Result<Book, AllocError> {
+    let mut book = Book::new(alloc);
+    let _first = book.add(1, connection(4, 1), Progress::Unpermitted)?;
+    let _second = book.add(2, connection(4, 2), Progress::Unpermitted)?;
+    let _other = book.add(3, connection(5, 1), Progress::Unpermitted)?;
+    Ok(book)
 }
 
 #[test]
@@ -82,6 +102,44 @@ fn a_permission_that_was_let_go_before_its_grant_is_not_kept(rt: HostRuntime) ->
     book.granted(permission(PEER))?;
     check(&rt, book.is_held(permission(PEER)), 0);
     check(&rt, !book.is_kept(permission(PEER)), 1);
+    Ok(())
+}
+
+#[test]
+fn a_permission_that_is_awaited_holds_up_no_other_peer(rt: HostRuntime) -> Result<(), Fail> {
+    let mut book = unpermitted(rt.alloc())?;
+    check(&rt, is_next(&book, connection(4, 1)), 0);
+    book.advance(connection(4, 1), Progress::Permitting);
+    check(&rt, is_next(&book, connection(5, 1)), 1);
+    book.advance(connection(5, 1), Progress::Permitting);
+    check(&rt, book.first_unpermitted().is_none(), 2);
+    Ok(())
+}
+
+#[test]
+fn requests_that_share_a_permission_go_on_in_order(rt: HostRuntime) -> Result<(), Fail> {
+    let mut book = unpermitted(rt.alloc())?;
+    book.advance(connection(4, 1), Progress::Permitting);
+    book.advance(connection(5, 1), Progress::Permitting);
+    book.granted(permission(4))?;
+    check(&rt, is_next(&book, connection(4, 1)), 0);
+    book.advance(connection(4, 1), Progress::Waiting);
+    check(&rt, is_next(&book, connection(4, 2)), 1);
+    book.advance(connection(4, 2), Progress::Waiting);
+    check(&rt, book.first_unpermitted().is_none(), 2);
+    Ok(())
+}
+
+// The permission that was refused to the first is requested again for the second.
+#[test]
+fn a_request_goes_on_when_another_was_refused_their_permission(
+    rt: HostRuntime,
+) -> Result<(), Fail> {
+    let mut book = unpermitted(rt.alloc())?;
+    book.advance(connection(4, 1), Progress::Permitting);
+    book.failed(permission(4), Some(refusal(403)), at(0))?;
+    check(&rt, book.first_denied().is_some(), 0);
+    check(&rt, is_next(&book, connection(4, 2)), 1);
     Ok(())
 }
 
