@@ -8,11 +8,12 @@ use Rattle.turn_session_book.specs.declared.open_requests.OpenRequest.{OpenReque
 use Rattle.turn_session_client.specs.Asking.{is_granted}
 use Rattle.turn_session_client.specs.Expiring.{ClosedWaits, ExpiryWaits, closed_noted, expiry_noted, first_expired}
 use Rattle.turn_session_client.specs.NotedState.{NotedState}
-use Rattle.turn_session_client.specs.Permitting.{DeniedWaits, PermitWaits, UnpermittedWaits, denied_noted, is_blocked, permit_noted, unpermitted_noted}
+use Rattle.turn_session_client.specs.Permitting.{DeniedWaits, PermitWaits, UnpermittedWaits, denied_noted, permit_noted, unpermitted_noted}
+use Rattle.turn_session_client.specs.Waiting.{is_full}
 
-permit-noted : (r : OpenRequest) (relays : TransportType) (now : ℕ) (was s : NotedState) (is blocked : Bool) → is_granted (permission_for r.key) was ≡ is
-    → is_blocked (permission_for r.key) was ≡ blocked → PermitWaits r relays now was s → (permit_noted r relays now was).0 ≡ true
-permit-noted r relays now was s true blocked g b h = rw g refl
+permit-noted : (r : OpenRequest) (relays : TransportType) (now : ℕ) (was s : NotedState) (is full : Bool) → is_granted (permission_for r.key) was ≡ is
+    → is_full was ≡ full → PermitWaits r relays now was s → (permit_noted r relays now was).0 ≡ true
+permit-noted r relays now was s true full g b h = rw g refl
 permit-noted r relays now was s false true g b h = absurd (rw (g, b) at h)
 permit-noted r relays now was s false false g b h = rw (g, b) refl
 
@@ -26,7 +27,7 @@ unpermitted-noted now was s None first f h = absurd h
 unpermitted-noted now was s (Some relays) None f h = absurd (rw f at h)
 unpermitted-noted now was s (Some relays) (Some r) f h =
     let t = relaying (Some relays) was in
-    rw f (permit-noted r relays now t s (is_granted (permission_for r.key) t) (is_blocked (permission_for r.key) t) refl refl (rw f at h))
+    rw f (permit-noted r relays now t s (is_granted (permission_for r.key) t) (is_full t) refl refl (rw f at h))
 
 denied-noted : (now : ℕ) (was s : NotedState) (first : Option OpenRequest) → first_denied was.notes.book.requests ≡ first → DeniedWaits now was s
     → (denied_noted now was).0 ≡ true

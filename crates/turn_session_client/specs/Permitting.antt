@@ -1,10 +1,10 @@
 -- Requests whose peer's IP address is not permitted: that permission is requested first (RFC 8656, section 12; RFC 6062, section 4.3).
-use Rattle.std.specs.Prelude.{◌≡◌, ◌⊎◌, ℕ, ◌||◌, Bool, true, false, if◌then◌else◌, Option, Some, None, is_some}
+use Rattle.std.specs.Prelude.{◌≡◌, ◌⊎◌, ℕ, Bool, true, false, if◌then◌else◌, Option, Some, None}
 use Rattle.turn_stun.specs.declared.transport.TransportType.{TransportType}
 use Rattle.turn_client_api.specs.State.{State}
 use Rattle.turn_session_book.specs.Book.{after_denial, after_settlement}
 use Rattle.turn_session_book.specs.Keys.{permission_for}
-use Rattle.turn_session_book.specs.OpenRequests.{first_awaiting, first_denied, first_unpermitted, with_progress}
+use Rattle.turn_session_book.specs.OpenRequests.{first_denied, first_unpermitted, with_progress}
 use Rattle.turn_session_book.specs.declared.answers.Outcome.TheVariants.{Granted, NotMade}
 use Rattle.turn_session_book.specs.declared.keys.Key.{Key}
 use Rattle.turn_session_book.specs.declared.keys.Key.TheVariants.{Connect}
@@ -46,19 +46,16 @@ permission_made r relays now s = by (made (permission_for r.key) relays now s.cl
     by (Client.Refused error, client) = record (with_book (after_settlement r.key (NotMade error) s.notes.book) s) { client = client }
     by (Client.NoMemory, client) = s
 
--- not while eight requests of the client are queued, nor while another request awaits it
-abbrev pub is_blocked : Key → NotedState → Bool
-is_blocked permission s = is_full s || is_some (first_awaiting permission s.notes.book.requests)
-
+-- not while eight requests of the client are queued
 abbrev pub permit_noted : OpenRequest → TransportType → ℕ → NotedState → Bool × NotedState
-permit_noted r relays now s = by (is_granted (permission_for r.key) s) (is_blocked (permission_for r.key) s)
+permit_noted r relays now s = by (is_granted (permission_for r.key) s) (is_full s)
   where
     by : Bool → Bool → Bool × NotedState
     by true _ = (true, permission_taken r.key (permission_for r.key) s)
     by false true = (false, s)
     by false false = (true, permission_made r relays now s)
 
--- the first of them
+-- the first of them whose permission no other request awaits
 abbrev pub unpermitted_noted : ℕ → NotedState → Bool × NotedState
 unpermitted_noted now s = by s.notes.relays (first_unpermitted s.notes.book.requests)
   where
@@ -83,7 +80,7 @@ PermissionWaits r relays now was s =
     (s ≡ was) ⊎ (s ≡ record was { client = (made (permission_for r.key) relays now was.client).1 })
 
 abbrev pub PermitWaits : OpenRequest → TransportType → ℕ → NotedState → NotedState → Type 0
-PermitWaits r relays now was s = by (is_granted (permission_for r.key) was) (is_blocked (permission_for r.key) was)
+PermitWaits r relays now was s = by (is_granted (permission_for r.key) was) (is_full was)
   where
     by : Bool → Bool → Type 0
     by true _ = s ≡ was

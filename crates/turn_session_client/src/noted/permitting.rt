@@ -2,7 +2,7 @@
 
 ghost use Rattle.std.specs.Prelude.{◌≡◌, ◌≤◌, ◌^◌, IfOk, OnErr, OnOk};
 ghost use Rattle.turn_session_client.specs.Permitting.{DeniedWaits, PermissionWaits, PermitWaits, UnpermittedWaits, denied_noted};
-ghost use Rattle.turn_session_client.specs.Permitting.{is_blocked, permission_made, permission_taken, permit_noted};
+ghost use Rattle.turn_session_client.specs.Permitting.{permission_made, permission_taken, permit_noted};
 ghost use Rattle.turn_session_client.specs.Permitting.{unpermitted_noted};
 
 use crate::constants::MAX_UNSENT;
@@ -38,7 +38,7 @@ impl<C: TurnClientApi> NotedClient<C> {
         }
     }
 
-    /// Goes on with the first request that needs a permission. Returns whether something was done.
+    /// Goes on with the first request that needs a permission which no other request awaits. Returns whether something was done.
     ///
     /// # Errors
     ///
@@ -57,8 +57,8 @@ impl<C: TurnClientApi> NotedClient<C> {
         self.permit(request, relays, now)
     }
 
-    /// Goes on with this request if its permission is granted, or requests that. Nothing is done while eight requests of the
-    /// client are queued, or another request awaits the permission. Returns whether something was.
+    /// Goes on with this request if its permission is granted, or requests that. It is not requested while eight requests of the
+    /// client are queued. Returns whether something was done.
     ///
     /// # Errors
     ///
@@ -78,7 +78,7 @@ impl<C: TurnClientApi> NotedClient<C> {
             self.take_permission(request.key, permission)?;
             return Ok(true);
         }
-        if self.is_blocked(permission) {
+        if self.client.queued_requests() >= MAX_UNSENT {
             return Ok(false);
         }
         self.make_permission(request, relays, now)?;
@@ -105,14 +105,6 @@ impl<C: TurnClientApi> NotedClient<C> {
             }
             _ => self.notes.book.settled(key, Outcome::Granted),
         }
-    }
-
-    /// Whether this permission is not requested now: while eight requests of the client are queued, or another request awaits it.
-    fn is_blocked(&self, permission: Key) -> bool
-        ensures { result ≡ is_blocked permission self.now }
-    {
-        self.client.queued_requests() >= MAX_UNSENT
-            || self.notes.book.first_awaiting(permission).is_some()
     }
 
     /// Requests the permission for this request of the client, which learns if it was let go meanwhile.
