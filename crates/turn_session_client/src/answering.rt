@@ -10,6 +10,7 @@ use turn_session_book::replies::{ErrorReply, Phrase};
 use turn_stun::message::Message;
 
 /// Whether these bytes begin with ChannelData or nothing known, and not with a message (RFC 8656, section 12).
+#[inline(always)]
 pub(crate) fn is_channel_data(bytes: &[u8]) -> bool
     ensures { result ≡ is_channel_data bytes.now }
 {

@@ -37,6 +37,7 @@ impl<C: TurnClientApi> NotedClient<C> {
     ///
     /// If memory allocation fails in the client, which has ended then, and the session with it. If it fails for the notes, `poll`
     /// notes the rest.
+    #[inline(always)]
     pub fn recv<T: AsSlice<u8> + Debug + Drop>(
         &mut self,
         transmit: Transmit<T>,
@@ -60,6 +61,7 @@ impl<C: TurnClientApi> NotedClient<C> {
     }
 
     /// Whether it is a response over the control connection that answers nothing.
+    #[inline(always)]
     fn answers_nothing<T: AsSlice<u8> + Debug + Drop>(&self, transmit: &Transmit<T>) -> bool
         ensures { result ≡ answers_nothing transmit.now.to (T.items transmit.now.payload) self.now.client }
     {
@@ -68,6 +70,7 @@ impl<C: TurnClientApi> NotedClient<C> {
     }
 
     /// Reads it, passes it to the client, and notes what it says and what the client does.
+    #[inline(always)]
     fn hear<T: AsSlice<u8> + Debug + Drop>(
         &mut self,
         transmit: Transmit<T>,
@@ -93,6 +96,7 @@ impl<C: TurnClientApi> NotedClient<C> {
     }
 
     /// Passes it to the client.
+    #[inline(always)]
     fn pass_in<T: AsSlice<u8> + Debug + Drop>(
         &mut self,
         transmit: Transmit<T>,
@@ -119,6 +123,7 @@ impl<C: TurnClientApi> NotedClient<C> {
 
     /// The error of a response that the events of a client report that accepts it. While an earlier event is to be noted there is
     /// none: that one has the error before.
+    #[inline(always)]
     fn reply_for(&self, reading: Option<Reading>) -> Option<ErrorReply>
         ensures { result ≡ reply_for reading self.now }
     {
@@ -129,6 +134,7 @@ impl<C: TurnClientApi> NotedClient<C> {
     }
 
     /// Notes what was received: this response, if it is one, with this error, which the client has accepted or ignored.
+    #[inline]
     fn note_reading(
         &mut self,
         reading: Option<Reading>,
@@ -179,6 +185,7 @@ impl<C: TurnClientApi> NotedClient<C> {
     }
 
     /// Notes the events of the client if it handled a message. What memory is wanted for is noted by the next call.
+    #[inline(always)]
     fn drain_if(&mut self, is_handled: bool, now: Instant)
         ensures { drained now self.new ≡ drained now self.old }
     {
