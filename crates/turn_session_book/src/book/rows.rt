@@ -3,7 +3,7 @@
 ghost use Rattle.std.specs.Prelude.{◌≡◌, IfOk, IsOk, IsSome, OnErr, OnOk, drop, slice_get};
 ghost use Rattle.turn_session_book.specs.Book.{after_mark, first_in, is_kept_after, is_requested};
 ghost use Rattle.turn_session_book.specs.Held.{is_held, is_kept_held};
-ghost use Rattle.turn_session_book.specs.OpenRequests.{after_request, first_awaiting, first_closed, first_denied};
+ghost use Rattle.turn_session_book.specs.OpenRequests.{after_request, first_closed, first_denied};
 ghost use Rattle.turn_session_book.specs.OpenRequests.{first_unpermitted, first_waiting, keeps, request_for, ticket_for};
 ghost use Rattle.turn_session_book.specs.OpenRequests.{with_closed, with_hint, with_opened, with_progress, with_repeated};
 ghost use Rattle.turn_session_book.specs.OpenRequests.{without_last, without_oldest};
@@ -157,13 +157,6 @@ impl Book {
         ensures { result ≡ first_unpermitted self.now.requests }
     {
         self.requests.first_unpermitted()
-    }
-
-    /// The first request for which this permission is requested.
-    pub fn first_awaiting(&self, permission: Key) -> Option<OpenRequest>
-        ensures { result ≡ first_awaiting permission self.now.requests }
-    {
-        self.requests.first_awaiting(permission)
     }
 
     /// The first request whose permission was refused.
