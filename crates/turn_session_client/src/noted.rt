@@ -2,7 +2,7 @@
 
 ghost use Rattle.std.specs.Prelude.{◌≡◌};
 ghost use Rattle.std.specs.Duration.{as_nanos};
-ghost use Rattle.turn_session_client.specs.Ending.{is_open};
+ghost use Rattle.turn_session_client.specs.Ending.{is_open, is_over};
 ghost use Rattle.turn_session_client.specs.NotedState.{new_noted};
 ghost use Rattle.turn_session_life.specs.Life.{cause_in};
 
@@ -102,6 +102,13 @@ impl<C: TurnClientApi> NotedClient<C> {
         ensures { result ≡ is_open self.now.life.phase }
     {
         matches!(self.life.phase, Phase::Open)
+    }
+
+    /// Whether the session has ended.
+    pub fn is_over(&self) -> bool
+        ensures { result ≡ is_over self.now.life.phase }
+    {
+        matches!(self.life.phase, Phase::Over(_))
     }
 
     /// Why the session leaves or has ended, or `None` if it does neither.

@@ -104,6 +104,13 @@ impl<C: TurnClientApi> NotedClient<C> {
         }
     }
 
+    /// Ends the session for this cause at once.
+    pub fn end(&mut self, why: Why)
+        ensures { self.new ≡ ended why self.old }
+    {
+        self.life.end(why);
+    }
+
     /// Ends the session for this cause, after it has deleted its allocation. It ends at once if the server can't have granted one: it
     /// has not challenged.
     pub fn end_soon(&mut self, why: Why, now: Instant)
