@@ -1,6 +1,8 @@
 pub mod Checking
 pub mod Due
 pub mod Ending
+pub mod Framing
+pub mod Given
 pub mod Giving
 pub mod PathMessages
 pub mod Polling

@@ -1,6 +1,7 @@
--- A session: its client with what is noted of it, and the checks of the path.
-use Rattle.std.specs.Prelude.{◌≡◌, ℕ, Bool, false, List, Option, None}
+-- A session: its client with what is noted of it, the checks of the path, and the stream to the server.
+use Rattle.std.specs.Prelude.{◌≡◌, ℕ, Bool, false, List, [], Option, None}
 use Rattle.std.specs.Duration.{as_nanos}
+use Rattle.turn_types.specs.Streams.{Stream, framed}
 use Rattle.turn_client_api.specs.State.{State}
 use Rattle.turn_session_client.specs.NotedState.{NotedState, new_noted}
 use Rattle.turn_session_life.specs.Watch.{watching}
@@ -11,6 +12,8 @@ use Rattle.turn_session.specs.declared.settings.SessionSettings.{SessionSettings
 pub record SessionState : Type 0 where
   -- the client, its requests and grants, and how far the session has come
   pub noted : NotedState
+  -- what was received over a stream to the server, and is not passed to the client yet
+  pub frames : Stream
   -- the path to the server
   pub watch : Watch
   -- the time between two probes of it
@@ -25,6 +28,7 @@ pub record SessionState : Type 0 where
 abbrev pub new_session : SessionSettings → List ℕ → ℕ → State → SessionState
 new_session settings seed now client = record {
   noted = new_noted settings.checks_allocation (as_nanos settings.leave_wait) now client;
+  frames = framed [];
   watch = watching client.transport None (record { seed = seed; place = 0 }) now;
   probe = probe_nanos settings.probe;
   is_watching = false;
@@ -34,6 +38,9 @@ new_session settings seed now client = record {
 
 abbrev pub with_noted : NotedState → SessionState → SessionState
 with_noted noted s = record s { noted = noted }
+
+abbrev pub with_frames : Stream → SessionState → SessionState
+with_frames frames s = record s { frames = frames }
 
 abbrev pub with_watch : Watch → SessionState → SessionState
 with_watch watch s = record s { watch = watch }

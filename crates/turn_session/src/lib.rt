@@ -12,6 +12,7 @@
 
 pub mod constants;
 pub mod due;
+mod given;
 mod path_messages;
 pub mod sent;
 pub mod session;

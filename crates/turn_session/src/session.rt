@@ -8,6 +8,8 @@ mod asking;
 mod checking;
 mod data;
 mod ending;
+mod frames;
+mod framing;
 mod giving;
 mod next;
 mod polling;
@@ -25,6 +27,7 @@ use turn_client_api::TurnClientApi;
 use turn_session_client::noted::NotedClient;
 use turn_session_life::watch::Watch;
 use turn_stun::instant::Instant;
+use turn_types::tcp::TurnTcpBuffer;
 
 /// A client from its first request to its end: the requests of the caller, which have one outcome each, what was granted, whether the
 /// path to the server carries packets, whether the server still knows the allocation, and why the session ends.
@@ -34,6 +37,8 @@ use turn_stun::instant::Instant;
 pub struct Session<C: TurnClientApi> {
     alloc: Global,
     noted: NotedClient<C>,
+    /// What was received over a stream to the server, and is not passed to the client yet. The client's own buffer of it stays empty.
+    frames: TurnTcpBuffer,
     watch: Watch,
     /// The time between two probes of the path, in nanoseconds.
     probe: Option<u64>,
@@ -51,6 +56,7 @@ impl<C: TurnClientApi> Model for Session<C> {
 
     ghost view = { λ s. record {
       noted = s.noted;
+      frames = s.frames.stream;
       watch = s.watch;
       probe = s.probe;
       is_watching = s.is_watching;
@@ -83,6 +89,7 @@ impl<C: TurnClientApi> Session<C> {
         Session {
             alloc,
             noted,
+            frames: TurnTcpBuffer::new(alloc),
             watch: Watch::new(transport, None, ids, now),
             probe: nanos_of(settings.probe),
             is_watching: false,

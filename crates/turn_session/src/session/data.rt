@@ -1,24 +1,18 @@
-//! Data of peers, as the client carries it. What a stream still holds at the end can be taken after it.
+//! Data for peers, as the client carries it.
 
-ghost use Rattle.std.specs.Prelude.{◌≡◌, ◌≤◌, ◌^◌, ◌&&◌, not, length, option_map, All, IfOk, IsNone, OnErr, OnOk};
+ghost use Rattle.std.specs.Prelude.{◌≡◌, ◌≤◌, ◌^◌, ◌&&◌, not, length};
 ghost use Rattle.turn_stun.specs.declared.transport.TransportType.TheVariants.{Udp};
-ghost use Rattle.turn_client_api.specs.Answers.{EndsAfterSteps, IsSent, given_payload};
+ghost use Rattle.turn_client_api.specs.Answers.{IsSent};
 ghost use Rattle.turn_client_api.specs.Calls.{can_send_to};
-ghost use Rattle.turn_client_api.specs.Streams.{HoldsLittle, poll_recv_step};
 ghost use Rattle.turn_session_client.specs.Ending.{is_over};
-ghost use Rattle.turn_session_client.specs.Receiving.{ended_with};
 ghost use Rattle.turn_session_client.specs.Sending.{sent_step};
 ghost use Rattle.turn_session.specs.Checking.{data_sent, sent_after};
-ghost use Rattle.turn_session.specs.SessionState.{with_noted};
 
 use crate::session::Session;
-use std::alloc::AllocError;
 use std::convert::AsSlice;
 use std::fmt::Debug;
 use std::net::{IpAddr, SocketAddr};
-use turn_client_api::{
-    DelayedMessageOrChannelSend, SendError, TransmitBuild, TurnClientApi, TurnPeerData,
-};
+use turn_client_api::{DelayedMessageOrChannelSend, SendError, TransmitBuild, TurnClientApi};
 use turn_stun::instant::Instant;
 use turn_stun::transport::TransportType;
 
@@ -61,22 +55,5 @@ impl<C: TurnClientApi> Session<C> {
             TransportType::Udp => {}
             TransportType::Tcp => self.watch.path.sent(now),
         }
-    }
-
-    /// The next payload of a peer in the client's streams, or none. `poll` notes what the client does meanwhile.
-    ///
-    /// # Errors
-    ///
-    /// If memory allocation fails. The client has ended then, as its `poll_recv` says, and the session with it.
-    pub fn poll_recv(&mut self, now: Instant) -> Result<Option<TurnPeerData<Vec<u8>>>, AllocError>
-        requires now_in_range { now ≤ 2 ^ 62 }
-        ensures answer { IfOk result (λ given. option_map given_payload given ≡ (poll_recv_step now self.old.noted.client).0) }
-        ensures little { IfOk result (λ given. IsNone given → All HoldsLittle self.new.noted.client.streams) }
-        ensures after { OnOk result (self.new
-            ≡ with_noted (record self.old.noted { client = (poll_recv_step now self.old.noted.client).1 }) self.old) }
-        ensures no_memory { OnErr result (EndsAfterSteps now self.old.noted.client self.new.noted.client) }
-        ensures ended { OnErr result (self.new ≡ with_noted (ended_with self.new.noted.client self.old.noted) self.old) }
-    {
-        self.noted.poll_recv(now)
     }
 }

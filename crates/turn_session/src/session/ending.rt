@@ -39,7 +39,8 @@ impl<C: TurnClientApi> Session<C> {
         self.noted.abandon(now)
     }
 
-    /// The stream to the server was closed by the server, or with this error. Pass in first what was read from it.
+    /// The stream to the server was closed by the server, or with this error. Pass in first what was read from it, and take
+    /// the data of peers: after the end frames are dropped.
     pub fn socket_ended(&mut self, tag: Option<Tag>)
         ensures { self.new ≡ with_noted (ended (Why.SocketEnded tag) self.old.noted) self.old }
     {

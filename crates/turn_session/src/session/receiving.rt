@@ -16,19 +16,12 @@ use turn_stun::instant::Instant;
 use turn_stun::transport::Transmit;
 
 impl<C: TurnClientApi> Session<C> {
-    /// Passes in a datagram, or bytes read from a stream. A response to a request of the path is none for the client. Another one is
-    /// read before the client ends its request, so that an event reports an error with the outcome, and the session knows why it ends.
-    /// Over a stream a response is read if it comes by itself. While the session leaves nothing is noted, and after its end all input
-    /// is returned.
-    ///
-    /// A response that has another method than the request with its ID answers nothing, and is returned before the client takes
-    /// it: the request still awaits its response.
+    /// Receives a datagram, bytes of a data connection, or one whole frame of a stream to the server.
     ///
     /// # Errors
     ///
-    /// If memory allocation fails in the client, which has ended then, and the session with it. If it fails for what is noted, `poll`
-    /// notes the rest.
-    pub fn recv<T: AsSlice<u8> + Debug + Drop>(
+    /// If memory allocation fails in the client, which has ended then, and the session with it.
+    pub(crate) fn recv_whole<T: AsSlice<u8> + Debug + Drop>(
         &mut self,
         transmit: Transmit<T>,
         now: Instant,
@@ -71,7 +64,7 @@ impl<C: TurnClientApi> Session<C> {
     }
 
     /// Whether it came from the server, over the control connection.
-    fn is_of_server<T: AsSlice<u8> + Debug + Drop>(&self, transmit: &Transmit<T>) -> bool
+    pub(crate) fn is_of_server<T: AsSlice<u8> + Debug + Drop>(&self, transmit: &Transmit<T>) -> bool
         ensures { result ≡ is_of_server transmit.now.transport transmit.now.from transmit.now.to self.now.noted.client }
     {
         let client = self.noted.client();
