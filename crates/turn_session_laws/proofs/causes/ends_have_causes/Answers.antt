@@ -37,12 +37,12 @@ use Rattle.turn_session_client.specs.Expiring.{ClosedWaits, ExpiryWaits, closed_
 use Rattle.turn_session_client.specs.Making.{made}
 use Rattle.turn_session_client.specs.Notes.{is_asked}
 use Rattle.turn_session_client.specs.NotedState.{NotedState}
-use Rattle.turn_session_client.specs.Permitting.{DeniedWaits, PermissionWaits, PermitWaits, UnpermittedWaits, denied_noted, is_blocked, permission_made}
+use Rattle.turn_session_client.specs.Permitting.{DeniedWaits, PermissionWaits, PermitWaits, UnpermittedWaits, denied_noted, permission_made}
 use Rattle.turn_session_client.specs.Permitting.{permission_taken, permit_noted, unpermitted_noted}
 use Rattle.turn_session_client.specs.Polling.{AfterPoll, Closes, ExpiredOrWent, ExpiresOrGoesOn, IsCause, IsShort, MakesOrPolls, NextWaitsOn, Polls, PollsClient, PollsNoted, PollsRunning, WaitsOn, cause_noted, opened, silent_grant, verdict_noted, waiting, waiting_made}
 use Rattle.turn_session_client.specs.Receiving.{Receives, answers_nothing, heard_step, is_taken, received, reply_for, with_hints, with_mapped, with_reply}
 use Rattle.turn_session_client.specs.Reading.{response_to}
-use Rattle.turn_session_client.specs.Waiting.{next_to_make}
+use Rattle.turn_session_client.specs.Waiting.{is_full, next_to_make}
 use Rattle.turn_session_client.specs.declared.making.Made.{Made}
 use Rattle.turn_session_client.specs.declared.making.Made.TheVariants as Client
 use Rattle.turn_session_client.specs.declared.reading.Reading.{Reading}
@@ -255,9 +255,9 @@ asked-keeps r relays now s (Client.Queued, client) e = rw e refl
 asked-keeps r relays now s (Client.Refused error, client) e = rw e refl
 asked-keeps r relays now s (Client.NoMemory, client) e = rw e refl
 
-permits : (r : OpenRequest) (relays : TransportType) (now : ℕ) (s : NotedState) (is blocked : Bool) → is_granted (permission_for r.key) s ≡ is
-    → is_blocked (permission_for r.key) s ≡ blocked → Notes s (permit_noted r relays now s)
-permits r relays now s true blocked g b =
+permits : (r : OpenRequest) (relays : TransportType) (now : ℕ) (s : NotedState) (is full : Bool) → is_granted (permission_for r.key) s ≡ is
+    → is_full s ≡ full → Notes s (permit_noted r relays now s)
+permits r relays now s true full g b =
     rw g (taken-keeps r.key (permission_for r.key) s (is_asked (permission_for r.key) s.notes) refl)
 permits r relays now s false true g b = rw (g, b) refl
 permits r relays now s false false g b = rw (g, b) (asked-keeps r relays now s (made (permission_for r.key) relays now s.client) refl)
@@ -268,7 +268,7 @@ unpermitted now s None first f = refl
 unpermitted now s (Some relays) None f = rw f refl
 unpermitted now s (Some relays) (Some r) f =
     let t = relaying (Some relays) s in
-    rw f (permits r relays now t (is_granted (permission_for r.key) t) (is_blocked (permission_for r.key) t) refl refl)
+    rw f (permits r relays now t (is_granted (permission_for r.key) t) (is_full t) refl refl)
 
 denied-notes : (now : ℕ) (s : NotedState) (first : Option OpenRequest) → first_denied s.notes.book.requests ≡ first → Notes s (denied_noted now s)
 denied-notes now s (Some r) f = rw f refl
@@ -291,9 +291,9 @@ permission-waits : (r : OpenRequest) (relays : TransportType) (now : ℕ) (was s
 permission-waits r relays now was s (inl same) = ap (λ (t : NotedState). t.life) same
 permission-waits r relays now was s (inr refused) = ap (λ (t : NotedState). t.life) refused
 
-permit-waits : (r : OpenRequest) (relays : TransportType) (now : ℕ) (was s : NotedState) (is blocked : Bool) → is_granted (permission_for r.key) was ≡ is
-    → is_blocked (permission_for r.key) was ≡ blocked → PermitWaits r relays now was s → s.life ≡ was.life
-permit-waits r relays now was s true blocked g b h = let same : s ≡ was = rw g at h in ap (λ (t : NotedState). t.life) same
+permit-waits : (r : OpenRequest) (relays : TransportType) (now : ℕ) (was s : NotedState) (is full : Bool) → is_granted (permission_for r.key) was ≡ is
+    → is_full was ≡ full → PermitWaits r relays now was s → s.life ≡ was.life
+permit-waits r relays now was s true full g b h = let same : s ≡ was = rw g at h in ap (λ (t : NotedState). t.life) same
 permit-waits r relays now was s false true g b h = absurd (rw (g, b) at h)
 permit-waits r relays now was s false false g b h = permission-waits r relays now was s (rw (g, b) at h)
 
@@ -303,7 +303,7 @@ unpermitted-waits now was s None first f h = absurd h
 unpermitted-waits now was s (Some relays) None f h = absurd (rw f at h)
 unpermitted-waits now was s (Some relays) (Some r) f h =
     let t = relaying (Some relays) was in
-    permit-waits r relays now t s (is_granted (permission_for r.key) t) (is_blocked (permission_for r.key) t) refl refl (rw f at h)
+    permit-waits r relays now t s (is_granted (permission_for r.key) t) (is_full t) refl refl (rw f at h)
 
 denied-waits : (now : ℕ) (was s : NotedState) (first : Option OpenRequest) → first_denied was.notes.book.requests ≡ first → DeniedWaits now was s
     → s.life ≡ was.life

@@ -40,8 +40,9 @@ use Rattle.turn_session_client.specs.Expiring.{closed_noted, closed_settled, exp
 use Rattle.turn_session_client.specs.Making.{made}
 use Rattle.turn_session_client.specs.NotedState.{NotedState}
 use Rattle.turn_session_client.specs.Notes.{failed, granted, is_asked, is_question, noted, question_failed, without_question}
-use Rattle.turn_session_client.specs.Permitting.{denied_noted, is_blocked, permission_made, permission_taken, permit_noted, unpermitted_noted}
+use Rattle.turn_session_client.specs.Permitting.{denied_noted, permission_made, permission_taken, permit_noted, unpermitted_noted}
 use Rattle.turn_session_client.specs.Reporting.{ending_reported, heard_reported, noted_reported, or_next, over_reported, reported_end, reported_if, reported_outcome, reported_step}
+use Rattle.turn_session_client.specs.Waiting.{is_full}
 use Rattle.turn_session_client.specs.declared.making.Made.{Made}
 use Rattle.turn_session_client.specs.declared.making.Made.TheVariants as Client
 use Rattle.turn_session_client.specs.declared.notes.Notes.{Notes}
@@ -219,10 +220,10 @@ made-owes ticket r relays now s (Client.Queued, client) e = rw e (omega (arith, 
 made-owes ticket r relays now s (Client.Refused error, client) e = rw e (settled-owes ticket r.key (NotMade error) s.notes.book)
 made-owes ticket r relays now s (Client.NoMemory, client) e = rw e refl
 
-permitted-owes : (ticket : ℕ) (r : OpenRequest) (relays : TransportType) (now : ℕ) (s : NotedState) (is blocked : Bool)
-    → is_granted (permission_for r.key) s ≡ is → is_blocked (permission_for r.key) s ≡ blocked
+permitted-owes : (ticket : ℕ) (r : OpenRequest) (relays : TransportType) (now : ℕ) (s : NotedState) (is full : Bool)
+    → is_granted (permission_for r.key) s ≡ is → is_full s ≡ full
     → owed ticket (permit_noted r relays now s).1.notes.book ≡ owed ticket s.notes.book
-permitted-owes ticket r relays now s true blocked g b =
+permitted-owes ticket r relays now s true full g b =
     rw g (taken-owes ticket r.key (permission_for r.key) s (is_asked (permission_for r.key) s.notes) refl)
 permitted-owes ticket r relays now s false true g b = rw (g, b) refl
 permitted-owes ticket r relays now s false false g b =
@@ -238,7 +239,7 @@ unpermitted-owes ticket now s None first f = refl
 unpermitted-owes ticket now s (Some relays) None f = rw f refl
 unpermitted-owes ticket now s (Some relays) (Some r) f =
     let t = relaying (Some relays) s in
-    rw f (permitted-owes ticket r relays now t (is_granted (permission_for r.key) t) (is_blocked (permission_for r.key) t) refl refl)
+    rw f (permitted-owes ticket r relays now t (is_granted (permission_for r.key) t) (is_full t) refl refl)
 
 denial-owes : (ticket now : ℕ) (s : NotedState) (first : Option OpenRequest) → first_denied s.notes.book.requests ≡ first
     → owed ticket (denied_noted now s).1.notes.book ≡ owed ticket s.notes.book
