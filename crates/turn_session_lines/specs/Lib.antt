@@ -1,0 +1,5 @@
+pub mod Arguments
+pub mod Call
+pub mod Head
+pub mod Reply
+pub mod Text
