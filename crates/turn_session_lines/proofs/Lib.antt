@@ -1,1 +1,2 @@
 pub mod CallableLemmas
+pub mod SendLemmas

@@ -1,5 +1,5 @@
 -- The answer of a call, and the session after it.
-use Rattle.std.specs.Prelude.{◌≡◌, ◌≤◌, ◌^◌, ℕ, Bool, true, false, not, ◌&&◌, List, length, Option, Some, Result, Ok, Err, Vec, ⊤}
+use Rattle.std.specs.Prelude.{◌≡◌, ◌≤◌, ◌^◌, ℕ, Bool, true, false, if◌then◌else◌, not, ◌&&◌, List, length, Option, Some, Result, Ok, Err, Vec, ⊤}
 use Rattle.std.specs.Global.{Global}
 use Rattle.std.specs.Net.Socket.{socket_ip}
 use Rattle.std.specs.declared.net.socket_addr.SocketAddr.{SocketAddr}
@@ -93,9 +93,10 @@ abbrev pub RepliesToSend : TransportType → SocketAddr → List ℕ → ℕ →
 RepliesToSend transport to payload now was reply s = by (is_longer transport 65_503 (length payload)) (is_permitted transport to was)
   where
     by : Bool → Bool → Type 0
-    by true _ = (reply, s) ≡ (Replies.TooLong, was)
+    by true _ = (reply ≡ Replies.TooLong) × (s ≡ was)
     by false true =
-        let step = sent_step transport to payload now was.noted in (reply, s) ≡ sent_reply transport now step.0 (with_noted step.1 was)
+        let step = sent_step transport to payload now was.noted in
+        let said = sent_reply transport now step.0 (with_noted step.1 was) in (reply ≡ said.0) × (s ≡ said.1)
     by false false = RepliesToRequest (Permission (socket_ip to)) true now was reply s
 
 -- ---- data connections
@@ -119,29 +120,29 @@ RepliesToFailed id socket peer now was reply s =
 abbrev pub RepliesTo : SessionCall → SessionState → SessionReply → SessionState → Type 0
 RepliesTo (Calls.Poll now) was reply s = (answer : TurnPollRet) × (reply ≡ Replies.OfClient (Client.Poll answer)) × Polls now was s answer
 RepliesTo (Calls.PollTransmit now) was reply s =
-    let step = transmit_step now was in (reply, s) ≡ (Replies.OfClient (Client.Transmit step.0), step.1)
-RepliesTo Calls.PollEvent was reply s = let step = reported_step was in (reply, s) ≡ (Replies.Event step.0, step.1)
+    let step = transmit_step now was in (reply ≡ Replies.OfClient (Client.Transmit step.0)) × (s ≡ step.1)
+RepliesTo Calls.PollEvent was reply s = let step = reported_step was in (reply ≡ Replies.Event step.0) × (s ≡ step.1)
 RepliesTo (Calls.Next now) was reply s = (due : Due) × (reply ≡ due_reply due) × IsNext now was s due
 RepliesTo (Calls.Recv packet now) was reply s = RepliesToRecv packet now was reply s
-RepliesTo (Calls.PollRecv now) was reply s = (reply, s) ≡ drained_reply now was
+RepliesTo (Calls.PollRecv now) was reply s = let said = drained_reply now was in (reply ≡ said.0) × (s ≡ said.1)
 RepliesTo (Calls.Send transport to payload now) was reply s = RepliesToSend transport to payload now was reply s
 RepliesTo (Calls.HavePermission transport to) was reply s =
-    (reply, s) ≡ (Replies.OfClient (Client.HavePermission (not (is_over was.noted.life.phase) && can_send_to transport to was.noted.client)), was)
+    (reply ≡ Replies.OfClient (Client.HavePermission (not (is_over was.noted.life.phase) && can_send_to transport to was.noted.client))) × (s ≡ was)
 RepliesTo (Calls.Request key is_for_data now) was reply s = RepliesToRequest key is_for_data now was reply s
 RepliesTo (Calls.SetKept key is_kept) was reply s =
-    let step = kept_while_running key is_kept was.noted in (reply, s) ≡ (Replies.Kept (keep_result step.0), with_noted step.1 was)
-RepliesTo (Calls.GrantOf key now) was reply s = (reply, s) ≡ (Replies.Answer (grant_of key now was.noted), was)
+    let step = kept_while_running key is_kept was.noted in (reply ≡ Replies.Kept (keep_result step.0)) × (s ≡ with_noted step.1 was)
+RepliesTo (Calls.GrantOf key now) was reply s = (reply ≡ Replies.Answer (grant_of key now was.noted)) × (s ≡ was)
 RepliesTo Calls.Grants was reply s =
     (grants : Vec HeldGrant Global) × (reply ≡ Replies.Grants grants) × (grants.items ≡ was.noted.notes.book.held) × (s ≡ was)
-RepliesTo Calls.KeptUntil was reply s = (reply, s) ≡ (Replies.KeptUntil (may_be_kept_until was.noted), was)
-RepliesTo (Calls.Check now) was reply s = let step = checked_step now was in (reply, s) ≡ (Replies.Answer (Some step.0), step.1)
+RepliesTo Calls.KeptUntil was reply s = (reply ≡ Replies.KeptUntil (may_be_kept_until was.noted)) × (s ≡ was)
+RepliesTo (Calls.Check now) was reply s = let step = checked_step now was in (reply ≡ Replies.Answer (Some step.0)) × (s ≡ step.1)
 RepliesTo (Calls.Abandon now) was reply s =
-    (reply, s) ≡ (Replies.OfClient (Client.Transmit (abandon_result now was.noted)), with_noted (abandon_state now was.noted) was)
+    (reply ≡ Replies.OfClient (Client.Transmit (abandon_result now was.noted))) × (s ≡ with_noted (abandon_state now was.noted) was)
 RepliesTo (Calls.DataOpened id socket peer local now) was reply s = RepliesToOpened id socket peer local now was reply s
 RepliesTo (Calls.DataFailed id socket peer now) was reply s = RepliesToFailed id socket peer now was reply s
 RepliesTo (Calls.DataClosed local peer tag now) was reply s =
-    (reply, s) ≡ (Replies.OfClient Client.Done, with_noted (closed_socket local peer tag was.noted) was)
-RepliesTo (Calls.Report report now) was reply s = (reply, s) ≡ (Replies.OfClient Client.Done, after_report report now was)
+    (reply ≡ Replies.OfClient Client.Done) × (s ≡ with_noted (closed_socket local peer tag was.noted) was)
+RepliesTo (Calls.Report report now) was reply s = (reply ≡ Replies.OfClient Client.Done) × (s ≡ after_report report now was)
 
 -- the call can be made: its time is in range
 abbrev pub IsCallable : SessionCall → Type 0
