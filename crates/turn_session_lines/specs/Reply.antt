@@ -1,11 +1,13 @@
 -- The answer of a call, and the session after it.
-use Rattle.std.specs.Prelude.{◌≡◌, ◌≤◌, ◌^◌, ℕ, Bool, true, false, if◌then◌else◌, not, ◌&&◌, List, length, Option, Some, Result, Ok, Err, Vec, ⊤}
+use Rattle.std.specs.Prelude.{◌≡◌, ◌≤◌, ◌^◌, ℕ, Bool, true, false, if◌then◌else◌, not, ◌&&◌, List, length, Some, Result, Ok, Err, Vec, ⊤}
 use Rattle.std.specs.Global.{Global}
 use Rattle.std.specs.Net.Socket.{socket_ip}
+use Rattle.std.specs.declared.convert.AsSlice.{Ghosts}
 use Rattle.std.specs.declared.net.socket_addr.SocketAddr.{SocketAddr}
 use Rattle.turn_stun.specs.declared.transport.Transmit.{Transmit}
 use Rattle.turn_stun.specs.declared.transport.TransportType.{TransportType}
 use Rattle.turn_client_api.specs.Calls.{can_send_to}
+use Rattle.turn_client_api.specs.Delayed.{delayed_send_bytes}
 use Rattle.turn_client_api.specs.Streams.{poll_recv_step}
 use Rattle.turn_client_api.specs.declared.error.SendError.{SendError}
 use Rattle.turn_client_api.specs.declared.error.TcpAllocateError.{TcpAllocateError}
@@ -35,6 +37,10 @@ use Rattle.turn_session.specs.Sending.{transmit_step}
 use Rattle.turn_session.specs.SessionState.{SessionState, NotesAlone, with_noted}
 use Rattle.turn_session.specs.declared.due.Due.{Due}
 use Rattle.turn_session.specs.declared.due.Due.TheVariants as Next
+use Rattle.turn_session.specs.declared.sent.SendRefusal.{SendRefusal}
+use Rattle.turn_session.specs.declared.sent.SendRefusal.TheVariants.{TooLong, Refused}
+use Rattle.turn_session.specs.declared.sent.Sent.{Sent}
+use Rattle.turn_session.specs.declared.sent.Sent.TheVariants.{Packet, Requested}
 use Rattle.turn_session_lines.specs.declared.call.Report.{Report}
 use Rattle.turn_session_lines.specs.declared.call.Report.TheVariants as Reports
 use Rattle.turn_session_lines.specs.declared.call.SessionCall.{SessionCall}
@@ -98,6 +104,18 @@ RepliesToSend transport to payload now was reply s = by (is_longer transport 65_
         let step = sent_step transport to payload now was.noted in
         let said = sent_reply transport now step.0 (with_noted step.1 was) in (reply ≡ said.0) × (s ≡ said.1)
     by false false = RepliesToRequest (Permission (socket_ip to)) true now was reply s
+
+-- what the session returned, with a packet built
+abbrev pub reply_of : {T : Type 0} {g : Ghosts T ℕ} → Result (Sent T g) SendRefusal → SessionReply
+reply_of (Ok (Packet packet)) = Replies.OfClient (Client.SendTo (Ok (record {
+  payload = delayed_send_bytes packet.payload;
+  transport = packet.transport;
+  from = packet.from;
+  to = packet.to;
+})))
+reply_of (Ok (Requested answer)) = Replies.Answer (Some answer)
+reply_of (Err TooLong) = Replies.TooLong
+reply_of (Err (Refused refusal)) = Replies.OfClient (Client.SendTo (Err refusal))
 
 -- ---- data connections
 

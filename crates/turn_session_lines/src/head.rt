@@ -4,7 +4,8 @@ ghost use Rattle.std.specs.Prelude.{◌≡◌, None, Some};
 ghost use Rattle.std.specs.Option.{option_copied, option_map};
 ghost use Rattle.std.specs.Duration.{as_nanos};
 ghost use Rattle.turn_lines.specs.Field.{Gives};
-ghost use Rattle.turn_session_lines.specs.Head.{after_word, chosen_in, described_in, head_with, if_ever, other_seed, session_head_of, settings_of, split_settings};
+ghost use Rattle.turn_session_lines.specs.Head.{after_word, chosen_in, described_in, head_with, if_ever, other_seed, settings_of};
+ghost use Rattle.turn_session_lines.specs.Head.{session_head_of, split_settings};
 
 use std::alloc::Global;
 use std::time::Duration;

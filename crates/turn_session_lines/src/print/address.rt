@@ -21,12 +21,14 @@ pub fn family_text(family: AddressFamily) -> &'static str
 pub fn address_text(alloc: Global, addr: SocketAddr) -> Result<String, AllocError>
     ensures { IfOk result (λ text. string_bytes text ≡ address_text addr) }
 {
-    if let SocketAddr::V4(addr) = addr {
-        return addr.to_string(alloc);
+    match addr {
+        SocketAddr::V4(addr) => addr.to_string(alloc),
+        SocketAddr::V6(addr) => {
+            let digits = hex::encode(alloc, addr.ip().octets().as_slice())?;
+            let port = addr.port();
+            format!(in alloc; "[{digits}]:{port}")
+        }
     }
-    let ip = ip_text(alloc, addr.ip())?;
-    let port = addr.port();
-    format!(in alloc; "{ip}:{port}")
 }
 
 /// `a.b.c.d`, or `[32 digits]`.

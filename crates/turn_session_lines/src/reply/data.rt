@@ -1,7 +1,7 @@
 //! The answers of calls about data of peers, and about data connections.
 
 ghost use Rattle.std.specs.Prelude.{◌≡◌, ◌≤◌, ◌^◌, IfOk};
-ghost use Rattle.turn_session_lines.specs.Reply.{RepliesTo};
+ghost use Rattle.turn_session_lines.specs.Reply.{RepliesTo, reply_of};
 
 use crate::call::SessionCall;
 use crate::reply::SessionReply;
@@ -58,7 +58,18 @@ pub(crate) fn send<C: TurnClientApi>(
     requires now_in_range { now ≤ 2 ^ 62 }
     ensures { IfOk result (λ reply. RepliesTo (SessionCall.Send transport to data.now now) session.old reply session.new) }
 {
-    match session.send(transport, to, data.as_bytes(), now) {
+    let given = session.send(transport, to, data.as_bytes(), now);
+    reply_of(alloc, given)
+}
+
+/// The reply that says what the session returned for data for a peer, with a packet built.
+fn reply_of(
+    alloc: Global,
+    given: Result<Sent<&[u8]>, SendRefusal>,
+) -> Result<SessionReply, AllocError>
+    ensures { IfOk result (λ reply. reply ≡ reply_of given.entry) }
+{
+    match given {
         Ok(Sent::Packet(packet)) => {
             let packet = packet.build(alloc)?;
             Ok(SessionReply::OfClient(Reply::SendTo(Ok(packet))))
