@@ -1,5 +1,5 @@
 -- The answer of a call, and the session after it.
-use Rattle.std.specs.Prelude.{◌≡◌, ◌≤◌, ◌^◌, ℕ, Bool, true, false, if◌then◌else◌, not, ◌&&◌, List, length, Some, Result, Ok, Err, Vec, ⊤}
+use Rattle.std.specs.Prelude.{◌≡◌, ◌≤◌, ◌^◌, ℕ, Bool, true, false, if◌then◌else◌, not, ◌&&◌, List, length, Option, Some, Result, Ok, Err, Vec, ⊤}
 use Rattle.std.specs.Global.{Global}
 use Rattle.std.specs.Net.Socket.{socket_ip}
 use Rattle.std.specs.declared.convert.AsSlice.{Ghosts}
@@ -8,7 +8,7 @@ use Rattle.turn_stun.specs.declared.transport.Transmit.{Transmit}
 use Rattle.turn_stun.specs.declared.transport.TransportType.{TransportType}
 use Rattle.turn_client_api.specs.Calls.{can_send_to}
 use Rattle.turn_client_api.specs.Delayed.{delayed_send_bytes}
-use Rattle.turn_client_api.specs.Streams.{poll_recv_step}
+use Rattle.turn_client_api.specs.Payloads.{Outcome, Payload}
 use Rattle.turn_client_api.specs.declared.error.SendError.{SendError}
 use Rattle.turn_client_api.specs.declared.error.TcpAllocateError.{TcpAllocateError}
 use Rattle.turn_client_api.specs.declared.poll.Socket5Tuple.{Socket5Tuple}
@@ -29,9 +29,9 @@ use Rattle.turn_session_client.specs.Sockets.{FailsSocket, TakesSocket, closed_s
 use Rattle.turn_session.specs.Checking.{checked_step, data_sent}
 use Rattle.turn_session.specs.Due.{IsNext}
 use Rattle.turn_session.specs.Ending.{after_failure, after_full, after_room}
+use Rattle.turn_session.specs.Framing.{ReceivesBytes, TakesData}
 use Rattle.turn_session.specs.Giving.{is_longer, is_permitted}
 use Rattle.turn_session.specs.Polling.{Polls}
-use Rattle.turn_session.specs.Receiving.{Receives, outcome_after}
 use Rattle.turn_session.specs.Reporting.{reported_step}
 use Rattle.turn_session.specs.Sending.{transmit_step}
 use Rattle.turn_session.specs.SessionState.{SessionState, NotesAlone, with_noted}
@@ -57,11 +57,11 @@ after_report Reports.Full now s = after_full now s
 after_report Reports.Room now s = after_room s
 after_report Reports.Leave now s = with_noted (left now s.noted) s
 
--- a packet that was received: the answer is the client's, unless it answers a check of the path
+-- what was received gives this outcome
 abbrev pub RepliesToRecv : Transmit (List ℕ) → ℕ → SessionState → SessionReply → SessionState → Type 0
 RepliesToRecv packet now was reply s =
-    (reply ≡ Replies.OfClient (recv_reply (outcome_after packet.transport packet.from packet.to packet.payload now was)))
-    × Receives packet.transport packet.from packet.to packet.payload now was s
+    (outcome : Outcome) × (reply ≡ Replies.OfClient (recv_reply outcome))
+    × ReceivesBytes packet.transport packet.from packet.to packet.payload now was s outcome
 
 -- a request
 abbrev pub RepliesToRequest : Key → Bool → ℕ → SessionState → SessionReply → SessionState → Type 0
@@ -69,10 +69,9 @@ RepliesToRequest key is_for_data now was reply s =
     (answer : Answer) × (reply ≡ Replies.Answer (Some answer)) × Requests key is_for_data now answer was.noted s.noted × NotesAlone was s
 
 -- data of a peer that a stream holds
-abbrev pub drained_reply : ℕ → SessionState → SessionReply × SessionState
-drained_reply now s =
-    let step = poll_recv_step now s.noted.client in
-    (Replies.OfClient (poll_recv_reply step.0), with_noted (record s.noted { client = step.1 }) s)
+abbrev pub RepliesToPollRecv : ℕ → SessionState → SessionReply → SessionState → Type 0
+RepliesToPollRecv now was reply s =
+    (payload : Option Payload) × (reply ≡ Replies.OfClient (poll_recv_reply payload)) × TakesData now was s payload
 
 -- what is due, as the call for it alone would say
 abbrev pub due_reply : Due → SessionReply
@@ -142,7 +141,7 @@ RepliesTo (Calls.PollTransmit now) was reply s =
 RepliesTo Calls.PollEvent was reply s = let step = reported_step was in (reply ≡ Replies.Event step.0) × (s ≡ step.1)
 RepliesTo (Calls.Next now) was reply s = (due : Due) × (reply ≡ due_reply due) × IsNext now was s due
 RepliesTo (Calls.Recv packet now) was reply s = RepliesToRecv packet now was reply s
-RepliesTo (Calls.PollRecv now) was reply s = let said = drained_reply now was in (reply ≡ said.0) × (s ≡ said.1)
+RepliesTo (Calls.PollRecv now) was reply s = RepliesToPollRecv now was reply s
 RepliesTo (Calls.Send transport to payload now) was reply s = RepliesToSend transport to payload now was reply s
 RepliesTo (Calls.HavePermission transport to) was reply s =
     (reply ≡ Replies.OfClient (Client.HavePermission (not (is_over was.noted.life.phase) && can_send_to transport to was.noted.client))) × (s ≡ was)
