@@ -85,8 +85,8 @@ class Runs(unittest.TestCase):
         page.load()
         links = page.driver.execute_script("return [...document.querySelectorAll('#runs a')].map((link) => link.dataset.run)")
         files = {f"{it.parent.name}/{it.stem}" for it in pathlib.Path(ROOT / "transcripts").glob("*/*.txt")}
-        # Lines that are no calls, heads alone, and lines that are too long to look at.
-        apart = {name for name in files if name.split("/")[0] in ("states", "bad", "sizes", "large")}
+        # Lines that are no calls, heads alone, lines that are too long to look at, and sessions, which the page does not have.
+        apart = {name for name in files if name.split("/")[0] in ("states", "bad", "sizes", "large", "session")}
         apart -= {"large/a_long_request_is_sent_seven_times"}
         apart |= {f"heads/{name}" for name in ("a_head_without_calls_has_no_answer", "the_last_line_needs_no_feed")}
         self.assertEqual(set(links), files - apart - {"data/a_packet_to_an_ipv6_peer_has_room_for_65504_bytes"})
