@@ -1,5 +1,5 @@
 -- Before the earliest expiry, time changes nothing.
-use Rattle.std.proofs.Common.{◌≡◌, ℕ, ◌<◌, ◌+◌, Bool, true, false, ◌&&◌, ◌||◌, not, cond, leb, ltb, List, [], ◌∷◌, ◌++◌, map, filter, filter_map, fold, reverse, Some, None, refl, ap, ◌∙◌, inl, inr}
+use Rattle.std.proofs.Common.{◌≡◌, ℕ, ◌<◌, ◌+◌, Bool, true, false, ◌&&◌, ◌||◌, not, leb, ltb, List, [], ◌∷◌, ◌++◌, map, filter, filter_map, fold, reverse, Some, None, refl, ap, ◌∙◌, inl, inr}
 use Rattle.std.proofs.Common.{arith}
 use Rattle.std.specs.Prelude.{All}
 use Rattle.std.specs.List.{list_any}
@@ -17,7 +17,7 @@ use Rattle.turn_client_api.specs.Grants.{allocations, as_connection, failures_am
 use Rattle.turn_client_api.specs.Grants.{unlisted, without_grants}
 use Rattle.turn_client_api.specs.Poll.{failed, allocation_expires, failed_by_timeout, is_expired_channel, is_expired_permission, is_over, is_unbound, expired_at, expired_allocation, expired_in}
 use Rattle.turn_client_api.specs.Poll.{last_channel_expired, unbound}
-use Rattle.turn_client_api.specs.Due.{expiry_time, expiry_times}
+use Rattle.turn_client_api.specs.Due.{expiry_time, expiry_times, final_expiry}
 use Rattle.turn_client_api.specs.declared.event.TurnEvent.{TurnEvent}
 use Rattle.turn_client_api.proofs.HasLemmas.{Has, filter-none, filter_map-has, find-none, has-all, cases_Option, has-unreversed}
 use Rattle.turn_client_api.proofs.ExpirySteps.{expired_in-does}
@@ -105,19 +105,18 @@ and_then-false : (a b : Bool) → b ≡ false → (a && b) ≡ false
 and_then-false true b e = e
 and_then-false false b e = refl
 
-expiry-else : (b : Bool) (time : ℕ) → b ≡ false → cond b None (Some time) ≡ Some time
-expiry-else true time e = cc
-expiry-else false time e = refl
-
--- an expired allocation with a pending request stays, and else one whose expiry has not passed
-stays-by : (past expired asked : Bool) → ((expired && asked) ≡ false → past ≡ false) → (past && (false || not asked || not expired)) ≡ false
-stays-by past true true early = and_then-false past false refl
-stays-by past expired asked early = rw (early refl) refl
+-- an expired allocation with a pending request stays, at most up to its final expiry, and else one whose expiry has not passed
+stays-by : (past expired asked timed over : Bool) → ((expired && asked) ≡ true → timed ≡ true → over ≡ false) → ((expired && asked) ≡ false → past ≡ false)
+    → (past && (false || not asked || not expired || over && timed)) ≡ false
+stays-by past true true true over final early = rw (final refl refl) (and_then-false past false refl)
+stays-by past true true false over final early = and_then-false past (over && false) (and_then-false over false refl)
+stays-by past expired asked timed over final early = rw (early refl) refl
 
 early-stays : (now : ℕ) (s : State) (a : Relay) → IsEarly now s (Allocation a) → allocation_expires [] now s a ≡ false
 early-stays now s a early =
-    stays-by (is_past now a) a.is_expired (has_request (Allocation a) s)
-    (λ e. late-le a.expiry now (early a.expiry (expiry-else (a.is_expired && has_request (Allocation a) s) a.expiry e)))
+    stays-by (is_past now a) a.is_expired (has_request (Allocation a) s) s.config.timed_from_send (leb (final_expiry a) now)
+    (λ e timed. late-le (final_expiry a) now (early (final_expiry a) (rw (e, timed) refl)))
+    (λ e. late-le a.expiry now (early a.expiry (rw e refl)))
 
 -- ---- nothing timed out
 

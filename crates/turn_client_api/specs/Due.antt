@@ -9,6 +9,7 @@ use Rattle.turn_client_api.specs.State.{Progress, Pending, Active, Reserved, lat
 use Rattle.turn_client_api.specs.Grants.{allocations, find_allocation, family_of_grant, has_request}
 use Rattle.turn_client_api.specs.Calls.{is_allocated}
 use Rattle.turn_client_api.specs.Effect.{channel_lifetime, min_lifetime, permission_lifetime}
+use Rattle.turn_client_api.specs.Queue.{has_request_to_send}
 
 -- ---- numbers of ours
 
@@ -88,10 +89,20 @@ keepalive_times s =
 
 -- ---- expiry
 
+-- If requests are timed from their first copies, one that no caller takes never times out: for an allocation that is
+-- marked as expired none is awaited longer than the server grants at first, and than the least that a refresh grants
+-- (our choice).
+abbrev pub final_expiry : Relay → ℕ
+final_expiry a = later_by (max a.first_lifetime (seconds min_lifetime)) a.expiry
+
+-- until when an allocation stays that is marked as expired while a request for it is pending, if not for ever
+abbrev pub awaited_until : State → Relay → Option ℕ
+awaited_until s a = if s.config.timed_from_send then Some (final_expiry a) else None
+
 -- from when on time removes the grant, reserves the active channel, or frees the reserved number; an
 -- expired allocation stays while a request for it is pending
 abbrev pub expiry_time : State → Grant → Option ℕ
-expiry_time s (Allocation a) = if a.is_expired && has_request (Allocation a) s then None else Some a.expiry
+expiry_time s (Allocation a) = if a.is_expired && has_request (Allocation a) s then awaited_until s a else Some a.expiry
 expiry_time s (Permission ip (Active lease)) = Some lease.expiry
 expiry_time s (Channel number peer (Active lease)) = Some lease.expiry
 expiry_time s (Channel number peer (Reserved until)) = Some (until + 1)
@@ -111,15 +122,23 @@ end_of now (Channel number peer (Active lease)) = lease.expiry ∷ []
 end_of now (Connection c) = option_to_list c.deadline
 end_of now _ = []
 
+-- until when these allocations stay at most, of those that are marked as expired; a past time is not waited for
+abbrev pub final_times : ℕ → List Relay → List ℕ
+final_times now relays = flat_map (λ a. if a.is_expired && nat_lt now (final_expiry a) then final_expiry a ∷ [] else []) relays
+
+-- when a caller calls again at the latest
+abbrev pub latest_wakeup : ℕ → State → ℕ
+latest_wakeup now s = fold min (later_by max_wait now) (if s.config.timed_from_send then final_times now (allocations s) else [])
+
 abbrev pub refresh_of : State → Grant → List ℕ
 refresh_of s grant = map (max (pause_end s)) (option_to_list (refresh_time s grant))
 
--- Each time at which something is due: the longest wait, a queued request, a transaction, the expiry of a
--- grant, a refresh, and what keeps the path alive.
+-- Each time at which something is due: the longest wait or the end of an allocation that is marked as expired, a queued
+-- request to be sent, a transaction, the expiry of a grant, a refresh, and what keeps the path alive.
 abbrev pub due_times : ℕ → State → List ℕ
 due_times now s =
-    later_by max_wait now
-    ∷ (if has_queued_request s then pause_end s ∷ [] else [])
+    latest_wakeup now s
+    ∷ (if has_request_to_send s then pause_end s ∷ [] else [])
     ++ map (transaction_timeout (agent_of s).timers s.transport) s.transactions
     ++ flat_map (λ g. end_of now g ++ refresh_of s g) s.grants
     ++ keepalive_times s

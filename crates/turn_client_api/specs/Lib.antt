@@ -15,6 +15,7 @@ pub mod Memory
 pub mod Payloads
 pub mod PeerBytes
 pub mod Poll
+pub mod Queue
 pub mod Range
 pub mod Receive
 pub mod Requests

@@ -13,7 +13,7 @@ use Rattle.turn_client_api.specs.Grants.{is_for_allocation, is_for_any, is_of, i
 use Rattle.turn_client_api.specs.Grants.{jump, purposes_of, unlisted, without_grants}
 use Rattle.turn_client_api.specs.Effect.{closed, transaction_ended, reserved, without_families}
 use Rattle.turn_client_api.specs.Calls.{is_allocated}
-use Rattle.turn_client_api.specs.Due.{has_event, has_reply, next_wakeup}
+use Rattle.turn_client_api.specs.Due.{final_expiry, has_event, has_reply, next_wakeup}
 use Rattle.turn_client_api.specs.declared.event.TurnEvent.TheVariants.{AllocationCreateFailed, ChannelCreateFailed}
 use Rattle.turn_client_api.specs.declared.poll.TurnPollRet.{TurnPollRet}
 use Rattle.turn_client_api.specs.declared.poll.TurnPollRet.TheVariants as Do
@@ -24,12 +24,14 @@ use Rattle.turn_client_api.specs.declared.poll.TurnPollRet.TheVariants as Do
 abbrev pub timed_out_purposes : Option ℕ → State → List Purpose
 timed_out_purposes given s = option_map_or (λ id. purposes_of id s) given []
 
--- An allocation is removed at its expiry, unless it is marked as expired and a request for it is pending. A
--- request that was made for these purposes just timed out, and so is not pending.
+-- An allocation is removed at its expiry, unless it is marked as expired and a request for it is pending: then it is at its final
+-- expiry, if requests are timed from their first copies. A request that was made for these purposes just timed out, and so is not
+-- pending.
 abbrev pub allocation_expires : List Purpose → ℕ → State → Relay → Bool
 allocation_expires purposes now s a =
     is_past now a
-    && (is_for_any purposes (Allocation a) || not (has_request (Allocation a) s) || not a.is_expired)
+    && (is_for_any purposes (Allocation a) || not (has_request (Allocation a) s) || not a.is_expired
+    || nat_le (final_expiry a) now && s.config.timed_from_send)
 
 -- these grants are removed, and their failures are queued before other events
 abbrev pub failed : (Grant → Bool) → State → State

@@ -3,6 +3,7 @@ use Rattle.std.specs.Prelude.{ℕ, List, Option, filter, length, slice_get}
 use Rattle.turn_agent.specs.Agent.{resends_made}
 use Rattle.turn_client_api.specs.State.{State, Purpose}
 use Rattle.turn_client_api.specs.Grants.{purposes_of}
+use Rattle.turn_client_api.specs.Queue.{is_to_send}
 use Rattle.turn_client_api.specs.declared.request.RequestView.{RequestView}
 
 -- a request with these purposes, of which there are at most two
@@ -15,4 +16,4 @@ viewed_request id s = view_with (purposes_of id s) (resends_made id s.transactio
 
 -- how many requests wait to be sent for the first time
 abbrev pub queued_request_count : State → ℕ
-queued_request_count s = length (filter (λ q. q.is_request) s.queue)
+queued_request_count s = length (filter (is_to_send s) s.queue)

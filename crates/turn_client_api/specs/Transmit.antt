@@ -1,10 +1,9 @@
 -- What a client sends next (RFC 8489, section 6.2; RFC 8656, sections 8 to 12).
-use Rattle.std.specs.Prelude.{ℕ, ◌==◌, slice_get, drop, nat_le, nat_lt, Bool, false, ◌&&◌, if◌then◌else◌, List, [], ◌∷◌, filter, filter_map, flat_map, Option}
-use Rattle.std.specs.Prelude.{Some, None, is_none, is_some}
+use Rattle.std.specs.Prelude.{ℕ, ◌==◌, slice_get, drop, nat_le, nat_lt, Bool, false, ◌&&◌, if◌then◌else◌, not, List, [], ◌∷◌, filter, filter_map, find}
+use Rattle.std.specs.Prelude.{flat_map, Option, Some, None, is_some}
 use Rattle.turn_stun.specs.declared.transport.Transmit.{Transmit}
 use Rattle.std.specs.List.{list_any}
 use Rattle.std.specs.Option.{option_map_or}
-use Rattle.turn_stun.specs.Message.{header_fault_of, id_of}
 use Rattle.turn_types.specs.declared.family.AddressFamily.{AddressFamily}
 use Rattle.turn_agent.specs.Agent.{due, resent, waits_begun}
 use Rattle.turn_agent.specs.declared.transaction.Transaction.{Transaction}
@@ -14,6 +13,8 @@ use Rattle.turn_client_api.specs.Grants.{allocations, family_of, is_of}
 use Rattle.turn_client_api.specs.Calls.{is_allocated}
 use Rattle.turn_client_api.specs.Requests.{request_started, asked_lifetime, binding_indication, first_allocate, fresh_id, id_used, request_for, to_server}
 use Rattle.turn_client_api.specs.Due.{is_paused, keepalive_times, refresh_time}
+use Rattle.turn_client_api.specs.Queue.{has_ended, settled}
+pub use Rattle.turn_client_api.specs.Queue.{id_in_header}
 
 -- a packet was sent, so the pause begins anew
 abbrev pub sent : ℕ → State → State
@@ -94,10 +95,6 @@ idle_step New now s = sent_at_once (first_allocate s (fresh_id s)) ForAllocation
 idle_step Allocated now s = refresh_step now s
 idle_step _ now s = (None, s)
 
--- the ID of a message with this header
-abbrev pub id_in_header : List ℕ → Option ℕ
-id_in_header bytes = if is_none (header_fault_of bytes) then Some (id_of bytes) else None
-
 -- if requests wait from their first copies on, and that of a request is given out now, its waits begin
 abbrev pub begun_by : ℕ → Queued → State → List Transaction
 begun_by now q s =
@@ -113,12 +110,12 @@ front_sent now q s = sent now (record s { queue = drop 1 s.queue; transactions =
 abbrev pub refreshes_first : ℕ → State → Bool
 refreshes_first now s = s.config.timed_from_send && is_allocated s.phase && is_some (next_refresh now s)
 
--- the queued packet that is sent next
+-- the queued packet that is sent next: the first one but for the requests that have ended
 abbrev pub next_queued : ℕ → State → Option Queued
-next_queued now s = if refreshes_first now s then None else slice_get s.queue 0
+next_queued now s = if refreshes_first now s then None else find (λ q. not (has_ended s q)) s.queue
 
 abbrev pub queue_step : ℕ → State → Option (Transmit (List ℕ)) × State
-queue_step now s = option_map_or (λ q. (Some q.packet, front_sent now q s)) (next_queued now s) (idle_step s.phase now s)
+queue_step now s = option_map_or (λ q. (Some q.packet, front_sent now q (settled s))) (next_queued now s) (idle_step s.phase now s)
 
 -- what is sent next: what is to be retransmitted, what is queued, and then what the client has to request
 abbrev pub transmit_step : ℕ → State → Option (Transmit (List ℕ)) × State

@@ -353,9 +353,11 @@ impl TurnConfig {
     /// choice). With the default pause a burst of requests leaves over seconds. A request that waits
     /// from when it was made may then be retransmitted before its turn, which waits for no pause, and
     /// time out before it has left; one that waits from its first copy leaves in its turn, and once, and a
-    /// refresh that is due goes before it. As long as nobody takes its first copy it does not time out, and
-    /// what it requests stays pending, at the latest until the allocation is removed; after `delete` the
-    /// client ends only once the REFRESH was taken, and answered or timed out.
+    /// refresh that is due goes before it; if it has ended before, as with its allocation, it never leaves. As
+    /// long as nobody takes its first copy it does not time out, and what it requests stays pending, at the
+    /// latest until the allocation is removed. After `delete` that is once the REFRESH was answered or timed
+    /// out, or by a `poll` its first lifetime later, or 600 s if it was shorter: also if nobody takes the
+    /// REFRESH, or the server refuses it.
     ///
     /// By default they begin when the request is made.
     pub fn set_requests_timed_from_send(&mut self, timed_from_send: bool)

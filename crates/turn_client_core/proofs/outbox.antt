@@ -1,3 +1,4 @@
+pub mod FrontLemmas
 pub mod OutboxLemmas
 pub mod QueueLemmas
 pub mod ReplyLemmas

@@ -1,2 +1,3 @@
+pub mod LeftLemmas
 pub mod PollLemmas
 pub mod TransmitLemmas

@@ -1,5 +1,5 @@
 -- What goes to the server: the queued packets, and the outstanding requests.
-use Rattle.std.specs.Prelude.{ℕ, Bool, true, false, List, [], ◌∷◌, ◌++◌, map, option_to_list, Option}
+use Rattle.std.specs.Prelude.{ℕ, Bool, true, false, List, [], ◌∷◌, ◌++◌, drop, fold, map, option_to_list, take, Option}
 use Rattle.std.specs.declared.net.socket_addr.SocketAddr.{SocketAddr}
 use Rattle.turn_stun.specs.declared.transport.Transmit.{Transmit}
 use Rattle.turn_stun.specs.declared.transport.TransportType.{TransportType}
@@ -7,6 +7,7 @@ use Rattle.turn_agent.specs.Agent.{first_sent}
 use Rattle.turn_agent.specs.Schedule.{Timers}
 use Rattle.turn_agent.specs.TransactionIds.{Source, behind_id}
 use Rattle.turn_agent.specs.declared.transaction.Transaction.{Transaction}
+use Rattle.turn_client_api.specs.Queue.{without_request}
 use Rattle.turn_client_api.specs.declared.state.Queued.{Queued}
 
 pub record Outgoing : Type 0 where
@@ -43,6 +44,10 @@ answering reply o = record o {
 -- the next ID was used
 abbrev pub outbox_id_used : Outgoing → Outgoing
 outbox_id_used o = record o { ids = behind_id o.ids }
+
+-- so many packets at the front are dropped, and their requests are no longer outstanding
+abbrev pub without_front : ℕ → Outgoing → Outgoing
+without_front count o = record o { queue = drop count o.queue; transactions = fold without_request o.transactions (take count o.queue) }
 
 -- with another room in the queue
 abbrev pub with_room : ℕ → Outgoing → Outgoing

@@ -1,5 +1,5 @@
 -- What is sent next, and which requests time out.
-use Rattle.std.specs.Prelude.{ℕ, Bool, ◌&&◌, if◌then◌else◌, List, Option, Some, None, drop, filter_map, find, slice_get}
+use Rattle.std.specs.Prelude.{ℕ, Bool, ◌&&◌, if◌then◌else◌, List, Option, Some, None, drop, filter_map, find, fold, slice_get, take}
 use Rattle.std.specs.Option.{option_map_or}
 use Rattle.turn_stun.specs.declared.transport.Transmit.{Transmit}
 use Rattle.turn_agent.specs.Agent.{is_due, is_timed_out, resent, waits_begun, without_transaction}
@@ -7,7 +7,8 @@ use Rattle.turn_agent.specs.declared.transaction.Transaction.{Transaction}
 use Rattle.turn_client_api.specs.Due.{is_paused}
 use Rattle.turn_client_api.specs.State.{State}
 use Rattle.turn_client_api.specs.declared.state.Queued.{Queued}
-use Rattle.turn_client_api.specs.Transmit.{id_in_header, queue_step, reply_in, reply_step, without_first_reply}
+use Rattle.turn_client_api.specs.Queue.{without_request}
+use Rattle.turn_client_api.specs.Transmit.{front_sent, id_in_header, queue_step, reply_in, reply_step, without_first_reply}
 use Rattle.turn_client_core.specs.Outgoing.{Outgoing, packet_of}
 
 -- the oldest request that is due is retransmitted, to the same destination
@@ -37,6 +38,12 @@ front_step timed_from_send now o =
       record o { queue = drop 1 o.queue; transactions = begun_with timed_from_send now q o; last_send = Some now },
     ))
     (slice_get o.queue 0) (None, o)
+
+-- the queued packet at this place is sent, and those before it are dropped with their requests
+abbrev pub placed_step : ℕ → ℕ → State → Option (Transmit (List ℕ)) × State
+placed_step place now s =
+    let t = record s { queue = drop place s.queue; transactions = fold without_request s.transactions (take place s.queue) } in
+    option_map_or (λ q. (Some q.packet, front_sent now q t)) (slice_get t.queue 0) (None, t)
 
 -- the oldest request whose last wait has ended times out
 abbrev pub give_up_step : ℕ → Outgoing → Option ℕ × Outgoing

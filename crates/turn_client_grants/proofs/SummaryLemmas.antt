@@ -4,12 +4,13 @@ use Rattle.std.specs.Prelude.{◌&&◌, All, Option, Some, None, filter_map, fin
 use Rattle.std.specs.List.{list_any}
 use Rattle.std.specs.Option.{option_or}
 use Rattle.std.proofs.lemmas.Bool.{lt-leb}
-use Rattle.std.proofs.lemmas.List.Elements.{All-cons, All-nil}
+use Rattle.std.proofs.lemmas.Grind.{fold-append}
+use Rattle.std.proofs.lemmas.List.Elements.{All-cons, All-head, All-nil, All-tail}
 use Rattle.std.specs.declared.net.socket_addr.SocketAddr.{SocketAddr}
 use Rattle.turn_types.specs.declared.family.AddressFamily.{AddressFamily}
 use Rattle.turn_client_api.specs.Calls.{progress_to, reserved_from}
-use Rattle.turn_client_api.specs.Due.{end_of, refresh_time, expiry_time, expiry_times}
-use Rattle.turn_client_api.specs.Grants.{as_allocation, family_of, is_of, is_of_family, is_of_request}
+use Rattle.turn_client_api.specs.Due.{end_of, refresh_time, expiry_time, expiry_times, final_expiry, final_times}
+use Rattle.turn_client_api.specs.Grants.{as_allocation, family_of, is_for, is_of, is_of_family, is_of_request}
 use Rattle.turn_client_api.specs.Poll.{first_unreported, unreported_in}
 use Rattle.turn_client_api.specs.State.{State, max_time}
 use Rattle.turn_client_api.specs.Transmit.{is_ranked, is_refresh_due, refresh_purpose}
@@ -57,18 +58,36 @@ below-all : (now n : ℕ) (xs : List ℕ) → now < fold min n xs → All (λ ti
 below-all now n [] lt = All-nil (λ time. now < time)
 below-all now n (x ∷ xs) lt = All-cons (λ time. now < time) x xs (omega (arith, fold-min-le (min n x) xs)) (below-all now (min n x) xs lt)
 
-filter_map-same : (f h : Grant → Option ℕ) → ((g : Grant) → f g ≡ h g) → (gs : List Grant) → filter_map f gs ≡ filter_map h gs
-filter_map-same f h same [] = refl
-filter_map-same f h same (g ∷ gs) = rw (same g, filter_map-same f h same gs) refl
+-- what holds of all that one function finds holds of all that another finds, where the first finds the same
+all-kept : (P : ℕ → Type 0) (f h : Grant → Option ℕ) → ((g : Grant) (time : ℕ) → f g ≡ Some time → h g ≡ Some time) → (gs : List Grant)
+    → All P (filter_map h gs) → All P (filter_map f gs)
+all-kept P f h kept [] all = All-nil P
+all-kept P f h kept (g ∷ gs) all = by (f g) refl (h g) refl (all-kept P f h kept gs)
+  where
+    by : (time : Option ℕ) → f g ≡ time → (other : Option ℕ) → h g ≡ other → (All P (filter_map h gs) → All P (filter_map f gs)) → All P (filter_map f (g ∷ gs))
+    by None e None o rest = rw e (rest (rw o at all))
+    by None e (Some other) o rest = rw e (rest (All-tail P other (filter_map h gs) (rw o at all)))
+    by (Some time) e other o rest =
+        let both : All P (time ∷ filter_map h gs) = rw (kept g time e) at all in
+        rw e (All-cons P time (filter_map f gs) (All-head P time (filter_map h gs) both) (rest (All-tail P time (filter_map h gs) both)))
 
-expiry_time-same : (grants : List Grant) (listed : List Listing) (s : State) (g : Grant) → expiry_time (with_lists grants listed s) g ≡ expiry_time_in listed g
-expiry_time-same grants listed s g = grind arith
+-- a time from which a grant expires is that of the summary, which knows no configuration
+expiry_time-kept : (grants : List Grant) (listed : List Listing) (s : State) (g : Grant) (time : ℕ)
+    → expiry_time (with_lists grants listed s) g ≡ Some time → expiry_time_in listed g ≡ Some time
+expiry_time-kept grants listed s (Allocation a) time e = by (a.is_expired && list_any (λ l. is_for l.purpose (Allocation a)) listed) s.config.timed_from_send e
+  where
+    by : (awaited timed : Bool) → cond awaited (cond timed (Some (final_expiry a)) None) (Some a.expiry) ≡ Some time
+        → Some (cond awaited (final_expiry a) a.expiry) ≡ Some time
+    by true true e = e
+    by true false e = cc
+    by false timed e = e
+expiry_time-kept grants listed s g time e = grind (arith, e)
 
 -- nothing expires before the earliest time at which something does
 pub early-all : (now : ℕ) (grants : List Grant) (listed : List Listing) (s : State) → now < fold min never (filter_map (expiry_time_in listed) grants)
     → All (λ time. now < time) (expiry_times (with_lists grants listed s))
 early-all now grants listed s lt =
-    rw (filter_map-same (expiry_time (with_lists grants listed s)) (expiry_time_in listed) (expiry_time-same grants listed s) grants)
+    all-kept (λ time. now < time) (expiry_time (with_lists grants listed s)) (expiry_time_in listed) (expiry_time-kept grants listed s) grants
     (below-all now never (filter_map (expiry_time_in listed) grants) lt)
 
 -- ---- before the first refresh
@@ -138,6 +157,14 @@ flat-relays now (g ∷ gs) = grind (arith, flat-relays now gs)
 relay_ends-both : (now : ℕ) (first second : Option Relay) → relay_ends now (option_to_list first ++ option_to_list second) ≡ relay_ends now (option_to_list first) ++ relay_ends now
     (option_to_list second)
 relay_ends-both now first second = grind (arith, append-nil)
+
+-- the final expiries of two allocations
+pub finals-both : (now time : ℕ) (first second : Option Relay)
+    → fold min (fold min time (final_times now (option_to_list first))) (final_times now (option_to_list second)) ≡ fold min time (final_times now (option_to_list first ++ option_to_list second))
+finals-both now time None second = refl
+finals-both now time (Some a) second =
+    let one : List ℕ = cond (a.is_expired && nat_lt now (final_expiry a)) (final_expiry a ∷ []) [] in
+    rw (append-nil one) (sym (fold-append min time one (final_times now (option_to_list second))))
 
 -- from the expiries of all but the allocations, the two allocations, and the first refresh
 pub soonest-is : (now pause time : ℕ) (s : State) (first second : Option Relay) → time ≤ max_time → pause ≤ max_time

@@ -3,7 +3,7 @@ use Rattle.std.specs.Prelude.{ℕ, ◌≡◌, ◌+◌, ◌-◌, ◌^◌, ◌&&�
 use Rattle.std.specs.Prelude.{option_to_list, Option, Some, None}
 use Rattle.std.specs.List.{list_any}
 use Rattle.std.specs.Option.{option_map_or}
-use Rattle.turn_client_api.specs.Due.{is_refreshable, refresh_time_of, time_ahead}
+use Rattle.turn_client_api.specs.Due.{final_expiry, is_refreshable, refresh_time_of, time_ahead}
 use Rattle.turn_client_api.specs.Effect.{channel_lifetime, permission_lifetime}
 use Rattle.turn_client_api.specs.declared.grant.Relay.{Relay}
 use Rattle.turn_client_api.specs.Grants.{as_allocation, has_request, is_for}
@@ -25,11 +25,11 @@ end_in (Channel number peer (Active lease)) = Some lease.expiry
 end_in (Connection c) = c.deadline
 end_in _ = None
 
--- the time at which the grant expires, its reservation ends or its deadline passes: an expired allocation
--- stays while a request for it awaits its response
+-- before this time the grant does not expire, nor does its reservation end or its deadline pass: an expired allocation
+-- stays up to its final expiry while a request for it awaits its response
 abbrev pub expiry_time_in : List Listing → Grant → Option ℕ
 expiry_time_in listed (Allocation a) =
-    if a.is_expired && list_any (λ l. is_for l.purpose (Allocation a)) listed then None else Some a.expiry
+    Some (if a.is_expired && list_any (λ l. is_for l.purpose (Allocation a)) listed then final_expiry a else a.expiry)
 expiry_time_in listed (Permission ip (Active lease)) = Some lease.expiry
 expiry_time_in listed (Channel number peer (Active lease)) = Some lease.expiry
 expiry_time_in listed (Channel number peer (Reserved until)) = Some (until + 1)

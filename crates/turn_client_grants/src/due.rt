@@ -3,7 +3,7 @@
 ghost use Rattle.std.specs.Duration.{as_nanos};
 ghost use Rattle.std.specs.Option.{option_map_or};
 ghost use Rattle.std.specs.Prelude.{◌≡◌, ◌-◌, false, fold, map, max, min, not, option_to_list};
-ghost use Rattle.turn_client_api.specs.Due.{is_refreshable, refresh_time_by_kind, refresh_time_of, time_ahead, keeps};
+ghost use Rattle.turn_client_api.specs.Due.{final_expiry, is_refreshable, refresh_time_by_kind, refresh_time_of, time_ahead, keeps};
 ghost use Rattle.turn_client_api.specs.State.{State};
 ghost use Rattle.turn_client_api.specs.Transmit.{is_refresh_due};
 ghost use Rattle.turn_client_grants.specs.Lists.{find_allocation_in, with_ahead, with_lists};
@@ -50,6 +50,15 @@ pub(crate) fn refresh_time_of(ahead: Duration, relay: &Relay) -> Instant
 {
     let lifetime = relay.first_lifetime.min(MIN_LIFETIME);
     earlier(relay.expiry, time_ahead(ahead, lifetime))
+}
+
+/// Until when a response is awaited for the allocation, which is marked as expired, if the request may never leave: as long after
+/// its expiry as the server granted at first, and at least as a refresh grants (our choice).
+pub(crate) fn final_expiry(relay: &Relay) -> Instant
+    ensures { result ≡ final_expiry relay.now }
+{
+    let lifetime = relay.first_lifetime.max(MIN_LIFETIME);
+    relay.expiry.plus(Duration::from_nanos(lifetime))
 }
 
 /// Whether there is an allocation of this family that is not expired.

@@ -10,7 +10,7 @@ ghost use Rattle.turn_client_grants.specs.Passed.{adds_nothing, is_no_earlier};
 ghost use Rattle.turn_client_grants.specs.Summary.{ReadsAlike, end_in, expiry_by_kind, is_requested};
 ghost use Rattle.turn_client_grants.specs.Summary.{is_reserved, is_unreported, kept_expiry, expiry_time_in, needs_refresh};
 
-use crate::due::{is_in_use, least};
+use crate::due::{final_expiry, is_in_use, least};
 use crate::listed::has_request;
 use turn_client_api::{Grant, Listing, Origin, Progress, Relay};
 use turn_stun::instant::Instant;
@@ -115,15 +115,14 @@ fn is_awaited(listed: &[Listing], relay: &Relay) -> bool
     relay.is_expired && has_request(listed, &Grant::Allocation(*relay))
 }
 
-/// The time at which the grant expires, its reservation ends or its deadline passes, in
-/// nanoseconds.
+/// The time before which the grant does not expire, nor does its reservation end or its deadline pass, in nanoseconds.
 fn expiry_time_in(listed: &[Listing], grant: &Grant) -> Option<u64>
     ensures { result ≡ expiry_time_in listed.now grant.now }
 {
     match grant {
         Grant::Allocation(relay) => {
             if is_awaited(listed, relay) {
-                return None;
+                return Some(final_expiry(relay).as_nanos());
             }
             Some(relay.expiry.as_nanos())
         }

@@ -2,7 +2,7 @@
 use Rattle.turn_client_laws.proofs.Common.{◌≡◌, ℕ, ◌<◌, Bool, true, false, ◌&&◌, ◌||◌, not, List, [], ◌∷◌, ◌++◌, filter, filter_map, find, fold, reverse, Option, Some, None, ◌⊎◌, inl, inr, refl, sym}
 use Rattle.turn_client_laws.proofs.Common.{subst, ◌∙◌, leb, All, ⊤, slice_get, none-some, not-true, leb-false, and_parts, cases_Bool, or_parts, SocketAddr}
 use Rattle.turn_client_laws.proofs.Machine.{AddressFamily, same_family, HasAllocation, State, agent_of, later_by, DataOffer, Grant, Allocation, Permission, Channel, Connect, Offer, Connection, Relay}
-use Rattle.turn_client_laws.proofs.Machine.{Active, Reserved, Purpose, allocations, as_allocation, find_allocation, family_of_grant, has_request, is_past, failures_among, family_of, is_channel_of}
+use Rattle.turn_client_laws.proofs.Machine.{Active, Reserved, Purpose, allocations, as_allocation, find_allocation, family_of_grant, final_expiry, has_request, is_past, failures_among, family_of, is_channel_of}
 use Rattle.turn_client_laws.proofs.Machine.{is_for_any, is_connect, is_of, is_pending_channel, is_pending_permission, jump, unlisted, without_grants, reserved, reserved_time, is_allocated}
 use Rattle.turn_client_laws.proofs.Machine.{first_unreported, timed_out_purposes, next_offer, unreported_in, channel_expired, connections_unbound, failed_by_timeout, last_channel_expired}
 use Rattle.turn_client_laws.proofs.Machine.{offers_timed_out, permissions_expired, refreshes_timed_out, failed, allocation_expires, is_expired_channel, is_expired_permission, is_unbound, expired_at}
@@ -230,14 +230,16 @@ stays-alive given purposes now s a h used = elim (cases_Bool (allocation_expires
       let stayed : Has (Allocation a) (without_grants (is_of (family_of a.relayed)) s).grants = rw e at h in
       let no : false ≡ true = sym (not-passed (is_of (family_of a.relayed)) (Allocation a) s.grants stayed) ∙ same_family-self (family_of a.relayed) (family_of a.relayed) refl in
       cc
-  | inr e ↦ leb-false a.expiry now (past (is_past now a) (is_for_any purposes (Allocation a)) (not (has_request (Allocation a) s)) (not a.is_expired) (rw used refl) e)
+  | inr e ↦ leb-false a.expiry now (past (is_past now a) (is_for_any purposes (Allocation a)) (not (has_request (Allocation a) s)) (not a.is_expired)
+      (leb (final_expiry a) now && s.config.timed_from_send) (rw used refl) e)
 ]
   where
-    past : (p x y n : Bool) → n ≡ true → (p && (x || y || n)) ≡ false → p ≡ false
-    past false x y n e f = refl
-    past true true y n e f = cc
-    past true false true n e f = cc
-    past true false false n e f = cc
+    past : (p x y n z : Bool) → n ≡ true → (p && (x || y || n || z)) ≡ false → p ≡ false
+    past false x y n z e f = refl
+    past true true y n z e f = cc
+    past true false true n z e f = cc
+    past true false false true z e f = cc
+    past true false false false z e f = cc
 
 allocation-alive : (given : Option ℕ) (purposes : List Purpose) (now : ℕ) (relays : List Relay) (s : State) (a : Relay) → Has a relays
     → Has (Allocation a) (fold (expired_allocation given purposes now) s relays).grants → a.is_expired ≡ false → now < a.expiry

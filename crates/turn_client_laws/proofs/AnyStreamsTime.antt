@@ -1,8 +1,8 @@
 -- What time brings, and what is sent, is independent of the streams.
 use Rattle.turn_client_laws.proofs.Common.{◌≡◌, ℕ, Bool, true, false, cond, ◌&&◌, ◌||◌, leb, List, [], ◌∷◌, ◌++◌, filter, filter_map, fold, map, Option, Some, None, refl, ap, ◌∙◌, find, flat_map}
 use Rattle.turn_client_laws.proofs.Common.{is_some, max, min, option_to_list, reverse, slice_get, list_any, option_map_or, SocketAddr}
-use Rattle.turn_client_laws.proofs.Machine.{AddressFamily, due, timed_out_transaction, transaction_timeout, is_allocated, end_of, has_event, has_queued_request, has_reply, is_new, is_paused}
-use Rattle.turn_client_laws.proofs.Machine.{is_refreshable, keepalive_times, max_wait, next_wakeup, pause_end, refresh_time, closed, transaction_ended, allocations, family_of, is_connect, is_of}
+use Rattle.turn_client_laws.proofs.Machine.{AddressFamily, due, timed_out_transaction, transaction_timeout, is_allocated, end_of, has_event, has_reply, has_request_to_send, is_new, is_paused}
+use Rattle.turn_client_laws.proofs.Machine.{is_refreshable, keepalive_times, latest_wakeup, next_wakeup, pause_end, refresh_time, closed, transaction_ended, allocations, family_of, is_connect, is_of}
 use Rattle.turn_client_laws.proofs.Machine.{is_pending_channel, is_pending_permission, allocation_expires, answer_by, answer_step, channel_expired, connections_unbound, failed_by_timeout}
 use Rattle.turn_client_laws.proofs.Machine.{is_expired_channel, is_listed_for_allocation, expired_at, expired_allocation, expired_in, next_offer, offers_timed_out, permissions_expired, poll_step}
 use Rattle.turn_client_laws.proofs.Machine.{refreshes_timed_out, set_free, timed_out_purposes, timed_out_step, timed_step, State, agent_of, later_by, max_time, idle_step, is_ranked, is_refresh_due}
@@ -96,8 +96,8 @@ module _ (x : List Stream) where
     where
       times : (Grant → Option ℕ) → List ℕ
       times refresh =
-          later_by max_wait now
-          ∷ cond (has_queued_request s) (pause_end s ∷ []) []
+          latest_wakeup now s
+          ∷ cond (has_request_to_send s) (pause_end s ∷ []) []
           ++ map (transaction_timeout (agent_of s).timers s.transport) s.transactions
           ++ flat_map (λ g. end_of now g ++ map (max (pause_end s)) (option_to_list (refresh g))) s.grants
           ++ keepalive_times s

@@ -1,5 +1,5 @@
 -- The edits that time makes, and those of what is sent.
-use Rattle.turn_client_laws.proofs.Common.{◌≡◌, ℕ, Bool, true, false, cond, eqb, leb, ltb, ◌&&◌, ◌||◌, List, [], ◌∷◌, filter, Option, Some, None, refl, inl, inr, sym, subst, ◌∙◌, drop, find, reverse}
+use Rattle.turn_client_laws.proofs.Common.{◌≡◌, ℕ, Bool, true, false, cond, eqb, leb, ltb, ◌&&◌, ◌||◌, List, [], ◌∷◌, filter, Option, Some, None, refl, inl, inr, sym, subst, ◌∙◌, drop, find, fold, reverse, take}
 use Rattle.turn_client_laws.proofs.Common.{flat_map, nat_le, slice_get, list_any, option_map_or, and_from, and_left, and_right, eq-eqb, cond_some, none-some, SocketAddr}
 use Rattle.turn_client_laws.proofs.Machine.{AddressFamily, due, timed_out_transaction, resent, waits_begun, same_address, Transaction, State, agent_of, Phase, New, Requesting, Authenticating, Allocated, Grant}
 use Rattle.turn_client_laws.proofs.Machine.{Allocation, Permission, Channel, Relay, Progress, Active, Purpose, ForAllocation, ForRefresh, ForPermission, ForChannel, Queued, allocations, family_of}
@@ -7,7 +7,7 @@ use Rattle.turn_client_laws.proofs.Machine.{is_connect, is_for_any, is_of, is_pe
 use Rattle.turn_client_laws.proofs.Machine.{closed, transaction_ended, reserved, has_event, has_reply, is_paused, keepalive_times, answer_step, channel_expired, connections_unbound}
 use Rattle.turn_client_laws.proofs.Machine.{timed_out_purposes, timed_out_step, allocation_expires, failed_by_timeout, is_timed_out_offer, is_expired_channel, is_expired_permission}
 use Rattle.turn_client_laws.proofs.Machine.{is_listed_for_allocation, is_over, is_unbound, expired_at, expired_allocation, expired_in, next_offer, offer_step, offers_timed_out, permissions_expired}
-use Rattle.turn_client_laws.proofs.Machine.{poll_step, silent_step, timed_step, idle_step, is_due_in, keepalive_step, next_queued, queue_step, refresh_purpose, refreshes_in, refreshes_of_rank, sent, transmit_step}
+use Rattle.turn_client_laws.proofs.Machine.{poll_step, silent_step, timed_step, ended_count, idle_step, is_due_in, keepalive_step, next_queued, queue_step, settled, without_request, refresh_purpose, refreshes_in, refreshes_of_rank, sent, transmit_step}
 use Rattle.turn_client_laws.proofs.Machine.{same_address-self, Has, has-filter, has-filter_map, has-flat_map, has-found, first-has, has-unreversed, expired_in-does}
 use Rattle.turn_client_api.specs.Transmit as T
 use Rattle.turn_client_laws.specs.LawsStates.{is_asked_by}
@@ -16,7 +16,8 @@ use Rattle.turn_client_laws.proofs.GrantOriginEffectLemmas.{same_ip-same}
 use Rattle.turn_client_laws.proofs.Edits.{IsAskable, KeepsEdits, SparesAllocations}
 use Rattle.turn_client_laws.proofs.EditsOfReplies.{closed-walk, each, either, found, one-of, removed, asked-walk, reserved-walk, spares-kind, spelled-else, unlisted-walk, reported-alike}
 use Rattle.turn_client_laws.proofs.CaseLemmas.{by_test, answer-by}
-use Rattle.turn_client_laws.proofs.QueuedLemmas.{queued-first}
+use Rattle.turn_agent.specs.Agent.{without_transaction}
+use Rattle.turn_client_laws.proofs.QueuedLemmas.{queued-there, settled-queued}
 
 -- ---- what is refreshed exists
 
@@ -195,12 +196,27 @@ module _ (R : State → State → Type 0) (k : KeepsEdits R) where
       by true None = k.same s
       by false o = k.same s
 
+  -- the requests of these packets end
+  abbrev ended_all : List Queued → State → State
+  ended_all queue s = record s { transactions = fold without_request s.transactions queue }
+
+  ended-walk : (queue : List Queued) (s : State) → R s (ended_all queue s)
+  ended-walk [] s = k.same s
+  ended-walk (q ∷ queue) s = by (T.id_in_header q.packet.payload) (λ t. ended-walk queue t)
+    where
+      by : (o : Option ℕ) → ((t : State) → R t (ended_all queue t))
+          → R s (ended_all queue (record s { transactions = option_map_or (λ id. without_transaction id s.transactions) o s.transactions }))
+      by None later = later s
+      by (Some id) later = then s (transaction_ended id s) _ (k.finishes id s) (later (transaction_ended id s))
+
   queue-walk : (now : ℕ) (s : State) → R s (queue_step now s).1
   queue-walk now s = found R k _ (next_queued now s) s (idle_step s.phase now s)
       (λ q e. let t = sent now s in
-      let u = record t { queue = drop 1 s.queue } in
-      then s t (record u { transactions = T.begun_by now q u }) (k.sends now s (λ new none. absurd (rw none at (first-has q s.queue (queued-first now s q e)))))
-      (then t u _ (k.dequeues (drop 1 s.queue) t (has-dropped s.queue)) (begun-walk now q u)))
+      let u = ended_all (take (ended_count s) s.queue) t in
+      let v = record u { queue = drop 1 (settled s).queue } in
+      then s t (record v { transactions = T.begun_by now q v }) (k.sends now s (λ new none. absurd (rw none at (queued-there now s q e).0)))
+      (then t u _ (ended-walk (take (ended_count s) s.queue) t)
+      (then u v _ (k.dequeues (drop 1 (settled s).queue) u (λ x there. settled-queued s x (has-dropped (settled s).queue x there))) (begun-walk now q v))))
       (idle-walk s.phase now s)
 
   pub transmit-walk : (now : ℕ) (s : State) → R s (transmit_step now s).1

@@ -29,7 +29,7 @@ pub use Rattle.turn_client_laws.proofs.AnyStreamsEffects.{bind-alike, opened_in,
 pub use Rattle.turn_client_laws.proofs.AnyStreamsLemmas.{both_with, message-alike, with_streams}
 pub use Rattle.turn_client_laws.proofs.AnyStreamsTime.{poll-alike, transmit-alike}
 pub use Rattle.turn_client_laws.proofs.BoundLemmas.{binds-input}
-pub use Rattle.turn_client_laws.proofs.QueuedLemmas.{none-queued, queued-first}
+pub use Rattle.turn_client_laws.proofs.QueuedLemmas.{first_left, left-none, left-unreplied, none-left, none-queued, none-to_send, queued-left, queued-there, settled-first, settled-has, settled-queued, settled-stays, settled-untimed}
 pub use Rattle.turn_client_laws.proofs.CaseLemmas.{all-expire, answer-by, bind-by, by_accepted, by_found, by_test, found-local, indicated-by, requested-by, send_to-by}
 pub use Rattle.turn_client_laws.proofs.ChallengeJudgement.{AnswersAllocate, Challenged-is, IsSignedReply, Says, bind-is, judgement-says}
 pub use Rattle.turn_client_laws.proofs.ConfiguredLemmas.{call-configured, leaves-configured, message-configured}

@@ -50,8 +50,8 @@ unfoldable pub use Rattle.turn_client_api.specs.Calls.{channel_numbers}
 pub use Rattle.turn_client_api.specs.Config.{Config, is_family_list, same_family, timers_of}
 pub use Rattle.turn_client_api.specs.Connections.{accepts_attempt, attempt_indicated, attempt_requested, bind_again, bind_answered, bind_step, bound, connection_at, deadline_set, is_connected}
 pub use Rattle.turn_client_api.specs.Connections.{is_connecting, is_connection_to, is_indicated, max_indicated, not_bound, with_deadline, with_mode}
-pub use Rattle.turn_client_api.specs.Due.{due_times, end_of, expiry_times, has_allocation_in_use, has_event, has_queued_request, has_reply, is_kept, is_new, is_paused, is_refreshable, keepalive_times}
-pub use Rattle.turn_client_api.specs.Due.{least_due, max_wait, next_wakeup, pause_end, refresh_of, refresh_time_by_kind}
+pub use Rattle.turn_client_api.specs.Due.{due_times, end_of, expiry_times, final_expiry, final_times, has_allocation_in_use, has_event, has_queued_request, has_reply, is_kept, is_new, is_paused, is_refreshable, keepalive_times}
+pub use Rattle.turn_client_api.specs.Due.{latest_wakeup, least_due, max_wait, next_wakeup, pause_end, refresh_of, refresh_time_by_kind}
 unfoldable pub use Rattle.turn_client_api.specs.Due.{refresh_time}
 pub use Rattle.turn_client_api.specs.Effect.{active_channel_answered, active_permission_answered, all_gone, allocate_denied, allocate_granted, allocated, allocation_mismatch, challenges_reset}
 pub use Rattle.turn_client_api.specs.Effect.{channel_answered, channel_lifetime, closed, connect_answered, delete_answered, effect, fail_all, family_not_supported, granted_until, has_code, in_phase}
@@ -88,6 +88,7 @@ pub use Rattle.turn_client_api.specs.Streams.{max_steps, next_frame_step, owned,
 pub use Rattle.turn_client_api.specs.Streams.{without_stream}
 unfoldable pub use Rattle.turn_client_api.specs.Streams.{steps_until_payload}
 pub use Rattle.turn_client_api.specs.Transmit.{idle_step, is_due_in, is_ranked, keepalive_step, next_refresh, next_transmit, queue_step, refresh_purpose, refresh_step, refreshes_in, refreshes_of_rank}
+pub use Rattle.turn_client_api.specs.Queue.{ended_count, has_ended, has_request_to_send, is_needed, is_to_send, settled, without_request}
 pub use Rattle.turn_client_api.specs.Transmit.{begun_by, front_sent, id_in_header, next_queued, refreshes_first}
 pub use Rattle.turn_client_api.specs.Transmit.{reply_in, reply_step, sent, sent_at_once, transmit_step, without_first_reply}
 unfoldable pub use Rattle.turn_client_api.specs.Transmit.{is_refresh_due}

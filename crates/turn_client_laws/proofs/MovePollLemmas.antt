@@ -6,7 +6,7 @@ use Rattle.turn_client_laws.proofs.Machine.{ForAllocation, Phase, New, Requestin
 use Rattle.turn_client_laws.proofs.Machine.{closed, transaction_ended, has_event, has_reply, is_paused, keepalive_times, expiry_times, answer_by, answer_step, channel_expired, timed_out_purposes}
 use Rattle.turn_client_laws.proofs.Machine.{timed_out_step, is_expired_channel, is_listed_for_allocation, expired_at, expired_allocation, expired_in, next_offer, offer_step, poll_step, timed_step}
 use Rattle.turn_client_laws.proofs.Machine.{as_reported, first_reported, unreported_in, idle_step, keepalive_step, queue_step, refreshes_in, reply_step, sent, sent_at_once, transmit_step, Call, Poll}
-use Rattle.turn_client_laws.proofs.Machine.{Queued, front_sent, id_in_header, next_queued, waiting_from, waits_begun, PollTransmit, Has, all-has, has-found, expired_in-does}
+use Rattle.turn_client_laws.proofs.Machine.{Queued, front_sent, settled, id_in_header, next_queued, waiting_from, waits_begun, PollTransmit, Has, all-has, has-found, expired_in-does}
 use Rattle.turn_client_laws.specs.LawsRequests.{AsksFor, IsMade}
 use Rattle.turn_client_laws.specs.LawsGone.{IsTakenBy, IsTimeUp, grant_identity}
 use Rattle.turn_client_api.proofs.EarlyExpiryLemmas.{expired_at-none}
@@ -18,6 +18,7 @@ use Rattle.turn_client_laws.proofs.MoveLemmas.{loses-cons}
 use Rattle.turn_client_laws.proofs.GrantOriginLemmas.{has-mapped}
 use Rattle.turn_client_laws.proofs.MoveMessageLemmas.{made-of}
 use Rattle.turn_client_laws.proofs.MoveSocketLemmas.{by_found}
+use Rattle.turn_client_laws.proofs.QueuedLemmas.{settled-has}
 use Rattle.turn_client_laws.proofs.StandLemmas.{has-contains}
 
 -- ---- what is listed as time passes
@@ -173,34 +174,41 @@ module _ (now : ℕ) (s : State) where
               at true f = inr (inl (z, has-contains z s.transactions there, inl f))
               at false f = inl (rw f there)
 
+  -- what is left of the requests
+  abbrev left : List Transaction
+  left = (settled s).transactions
+
   -- the first copy of a queued request is given out
-  begun-does : (id : ℕ) (queue : List Queued) → s.config.timed_from_send ≡ true → Does sending s (sent now (record s { queue = queue; transactions = waits_begun id now s.transactions }))
+  begun-does : (id : ℕ) (queue : List Queued) → s.config.timed_from_send ≡ true → Does sending s (sent now (record s { queue = queue; transactions = waits_begun id now left }))
   begun-does id queue timed = (begun, adds-same _ s.listed, loses-same (IsTakenBy sending s) s.grants)
     where
       t : State
-      t = sent now (record s { queue = queue; transactions = waits_begun id now s.transactions })
+      t = sent now (record s { queue = queue; transactions = waits_begun id now left })
 
       begun : Adds (MadeAt sending s t) s.transactions t.transactions
-      begun y h = by (has-mapped (λ (z : Transaction). cond (eqb z.id id) (waiting_from now z) z) y s.transactions h)
+      begun y h = by (has-mapped (λ (z : Transaction). cond (eqb z.id id) (waiting_from now z) z) y left h)
         where
-          by : (z : Transaction) × Has z s.transactions × (y ≡ cond (eqb z.id id) (waiting_from now z) z) → Has y s.transactions ⊎ MadeAt sending s t y
-          by (z, there, e) = at (eqb z.id id) e
+          by : (z : Transaction) × Has z left × (y ≡ cond (eqb z.id id) (waiting_from now z) z) → Has y s.transactions ⊎ MadeAt sending s t y
+          by (z, inside, e) = at (eqb z.id id) e
             where
+              there : Has z s.transactions
+              there = settled-has s z inside
+
               at : (b : Bool) → y ≡ cond b (waiting_from now z) z → Has y s.transactions ⊎ MadeAt sending s t y
               at true f = inr (inl (z, has-contains z s.transactions there, inr (timed, f)))
               at false f = inl (rw f there)
 
-  front-does : (q : Queued) → Does sending s (front_sent now q s)
+  front-does : (q : Queued) → Does sending s (front_sent now q (settled s))
   front-does q = by s.config.timed_from_send refl q.is_request (id_in_header q.packet.payload)
     where
       queue : List Queued
-      queue = drop 1 s.queue
+      queue = drop 1 (settled s).queue
 
-      none : Does sending s (sent now (record s { queue = queue }))
-      none = does-settled sending s _ (settles-same (IsTakenBy sending s) s)
+      none : Does sending s (sent now (record s { queue = queue; transactions = left }))
+      none = (λ x there. inl (settled-has s x there), adds-same _ s.listed, loses-same (IsTakenBy sending s) s.grants)
 
       by : (timed : Bool) → s.config.timed_from_send ≡ timed → (b : Bool) (o : Option ℕ) → Does sending s
-          (sent now (record s { queue = queue; transactions = cond (timed && b) (option_map_or (λ id. waits_begun id now s.transactions) o s.transactions) s.transactions }))
+          (sent now (record s { queue = queue; transactions = cond (timed && b) (option_map_or (λ id. waits_begun id now left) o left) left }))
       by true is true (Some id) = begun-does id queue is
       by true is true None = none
       by true is false o = none
@@ -257,7 +265,7 @@ transmit-does now s =
     by_found Claim (λ t. (Some (record (to_server s s.local t.request) { to = t.to }), sent now (record s { transactions = resent t.id now s.transactions })))
     (due (agent_of s) now) (cond (is_paused now s) (reply_step s) (queue_step now s)) (λ x e. resent-does now s x)
     (by_test Claim (is_paused now s) (reply_step s) (queue_step now s) (does-settled (PollTransmit now) s (reply_step s).1 same)
-    (by_found Claim (λ q. (Some q.packet, front_sent now q s))
+    (by_found Claim (λ q. (Some q.packet, front_sent now q (settled s)))
     (next_queued now s) (idle_step s.phase now s) (λ q e. front-does now s q) (idle-does s.phase now s)))
   where
     Claim : State → Type 0

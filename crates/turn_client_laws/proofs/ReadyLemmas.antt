@@ -7,14 +7,14 @@ use Rattle.turn_client_laws.proofs.Machine.{front_sent, is_allocated, refreshes_
 use Rattle.turn_client_laws.proofs.Machine.{timed_out_transaction, due, is_due, is_timed_out, transaction_timeout, Transaction, Transmit, TransportType, Timers, AddressFamily, IPV4, IPV6, same_family}
 use Rattle.turn_client_laws.proofs.Machine.{State, agent_of, later_by, max_time, Purpose, ForRefresh, ForPermission, ForChannel, Phase, New, Allocated, Grant, Allocation, Permission, Channel}
 use Rattle.turn_client_laws.proofs.Machine.{Connection, Relay, Active, Queued, allocations, as_allocation, find_allocation, family_of, family_of_grant, family_of_ip, is_of, asked_lifetime}
-use Rattle.turn_client_laws.proofs.Machine.{binding_indication, fresh_id, id_used, request_for, to_server, due_times, end_of, is_refreshable, has_allocation_in_use, has_queued_request, has_reply}
-use Rattle.turn_client_laws.proofs.Machine.{keepalive_times, is_paused, least_due, pause_end, refresh_of, refresh_time, next_offer, idle_step, is_due_in, is_ranked, is_refresh_due, keepalive_step}
+use Rattle.turn_client_laws.proofs.Machine.{binding_indication, fresh_id, id_used, request_for, to_server, due_times, end_of, final_expiry, final_times, is_refreshable, has_allocation_in_use, has_ended, has_reply, has_request_to_send, next_queued, settled}
+use Rattle.turn_client_laws.proofs.Machine.{keepalive_times, is_paused, latest_wakeup, least_due, max_wait, pause_end, refresh_of, refresh_time, next_offer, idle_step, is_due_in, is_ranked, is_refresh_due, keepalive_step}
 use Rattle.turn_client_laws.proofs.Machine.{next_refresh, next_transmit, queue_step, refresh_purpose, refresh_step, refreshes_in, refreshes_of_rank, reply_in, reply_step, sent, sent_at_once}
 use Rattle.turn_client_laws.proofs.Machine.{transmit_step, without_first_reply, IsIdleUntil, Lasts, Has, has-append, has-left, has-right, map-has, flat_map-has, has-flat_map, has-found, filter-has}
 use Rattle.turn_client_laws.proofs.Machine.{filter_map-has, has-filter_map, find-none, filter-none, least-le, all-has, cases_Option}
 use Rattle.std.proofs.lemmas.Bool.Decides.{nat_tests}
 use Rattle.turn_client_laws.proofs.MoveLemmas.{none-found}
-use Rattle.turn_client_laws.proofs.QueuedLemmas.{none-queued}
+use Rattle.turn_client_laws.proofs.QueuedLemmas.{first_left, left-none, left-unreplied, none-left, none-to_send}
 use Rattle.turn_client_laws.proofs.GrantOriginLemmas.{has-mapped}
 
 -- the grant has not expired by now, if its expiry is one to wait for
@@ -43,7 +43,7 @@ least-member : (now m : ℕ) (t : State) → Has m (due_times now t) → least_d
 least-member now m t h = least-le max_time m (due_times now t) h
 
 abbrev queued_part : State → List ℕ
-queued_part t = if has_queued_request t then pause_end t ∷ [] else []
+queued_part t = if has_request_to_send t then pause_end t ∷ [] else []
 
 abbrev transactions_part : State → List ℕ
 transactions_part t = map (transaction_timeout (agent_of t).timers t.transport) t.transactions
@@ -51,7 +51,7 @@ transactions_part t = map (transaction_timeout (agent_of t).timers t.transport) 
 abbrev grant_part : ℕ → State → Grant → List ℕ
 grant_part now t g = end_of now g ++ refresh_of t g
 
-least-queued : (now : ℕ) (t : State) → has_queued_request t ≡ true → least_due now t ≤ pause_end t
+least-queued : (now : ℕ) (t : State) → has_request_to_send t ≡ true → least_due now t ≤ pause_end t
 least-queued now t queued =
     let others = flat_map (grant_part now t) t.grants in
     least-member now (pause_end t) t (inr (has-left (pause_end t) (queued_part t ++ transactions_part t ++ others) (keepalive_times t)
@@ -84,15 +84,11 @@ not_over : (now m : ℕ) (t : State) → m < least_due now t → timed_out_trans
 not_over now m t before =
     find-none _ t.transactions (λ x h. and_right _ _ (lt-leb _ m (omega (arith, before, least-transaction now t x h))))
 
--- with no reply in the queue none is sent, and with no request either it is empty
+-- with no reply in the queue none is sent
 no_replies : (qs : List Queued) → list_any (λ q. not q.is_request) qs ≡ false → filter_map reply_in qs ≡ []
 no_replies [] none = refl
 no_replies (q ∷ qs) none =
     elim (cases_Bool q.is_request) [ inl is ↦ rw is (no_replies qs (rw is at none)) | inr is ↦ let h : true ≡ false = rw is at none in cc ]
-
-empty : (qs : List Queued) → list_any (λ q. not q.is_request) qs ≡ false → list_any (λ q. q.is_request) qs ≡ false → qs ≡ []
-empty [] no_reply no_request = refl
-empty (q ∷ qs) no_reply no_request = grind arith
 
 -- what is before the later of two times, and not before the first, is before the second
 early : (m time least pause : ℕ) → m < least → least ≤ max pause time → pause ≤ m → leb time m ≡ false
@@ -153,8 +149,8 @@ no_reply-left (q ∷ qs) none = (Rattle.std.proofs.lemmas.Bool.or_parts (not q.i
 reply-none : (t : State) → has_reply t ≡ false → reply_step t ≡ (None, t)
 reply-none t none = rw (no_replies t.queue none, no_reply-kept t.queue none) refl
 
-queue-empty : (m : ℕ) (t : State) → t.queue ≡ [] → queue_step m t ≡ idle_step t.phase m t
-queue-empty m t e = rw (none-queued m t e) refl
+queue-none : (m : ℕ) (t : State) → next_queued m t ≡ None → queue_step m t ≡ idle_step t.phase m t
+queue-none m t e = rw e refl
 
 sends_nothing : (now m : ℕ) (t : State) → IsReady now t → m < least_due now t → transmit_step m t ≡ (None, t)
 sends_nothing now m t ready before = rw (not_due-transmit m t (not_due now m t before)) (by (is_paused m t) refl)
@@ -162,8 +158,8 @@ sends_nothing now m t ready before = rw (not_due-transmit m t (not_due now m t b
     by : (b : Bool) → is_paused m t ≡ b → (if is_paused m t then reply_step t else queue_step m t) ≡ (None, t)
     by true e = rw e (reply-none t ready.no_reply)
     by false e =
-        let no_request = false_from_ne_true (has_queued_request t) (λ queued. absurd (omega (arith, before, least-queued now t queued, ltb-false m (pause_end t) e))) in
-        rw (e, queue-empty m t (empty t.queue ready.no_reply no_request)) (idle_silent now m t before e t.phase ready.not_new)
+        let no_request = false_from_ne_true (has_request_to_send t) (λ queued. absurd (omega (arith, before, least-queued now t queued, ltb-false m (pause_end t) e))) in
+        rw (e, queue-none m t (none-left m t (none-to_send t t.queue ready.no_reply no_request))) (idle_silent now m t before e t.phase ready.not_new)
 
 lasts : (now m : ℕ) (t : State) → IsReady now t → m ≤ least_due now t → (g : Grant) → Has g t.grants → Lasts m g
 lasts now m t ready until g h = by g h (ready.alive g h)
@@ -198,20 +194,41 @@ later-least now start [] first later = first
 later-least now start (m ∷ ms) first later =
     later-least now (min start m) ms (omega (arith, le-min {k = suc now} {a = start} {b = m} (omega (arith, first)) (omega (arith, later m (inl refl))))) (λ k h. later k (inr h))
 
-has-queued : (now m : ℕ) (t : State) → (has_queued_request t ≡ true → now < pause_end t) → Has m (queued_part t) → now < m
+has-queued : (now m : ℕ) (t : State) → (has_request_to_send t ≡ true → now < pause_end t) → Has m (queued_part t) → now < m
 has-queued now m t queued h = grind arith
 
 waits_on : (timers : Timers) (transport : TransportType) (now : ℕ) (t : Transaction) → is_due timers transport now t ≡ false → is_timed_out timers transport now t ≡ false
     → now < transaction_timeout timers transport t
 waits_on timers transport now t not_due not_over = grind (arith, nat_tests)
 
+-- up to when an allocation stays that is marked as expired
+final-later : (now m : ℕ) (relays : List Relay) → Has m (final_times now relays) → now < m
+final-later now m relays h =
+    let came = has-flat_map (λ (a : Relay). cond (a.is_expired && ltb now (final_expiry a)) (final_expiry a ∷ []) []) m relays h in
+    by came.from (came.from.is_expired && ltb now (final_expiry came.from)) refl came.gives
+  where
+    by : (a : Relay) (b : Bool) → (a.is_expired && ltb now (final_expiry a)) ≡ b → Has m (cond b (final_expiry a ∷ []) []) → now < m
+    by a true e (inl is) = rw is (ltb-true now (final_expiry a) (and_parts a.is_expired (ltb now (final_expiry a)) e).1)
+    by a true e (inr none) = absurd none
+    by a false e none = absurd none
+
+latest-later : (now : ℕ) (t : State) → now ≤ 2 ^ 62 → now < latest_wakeup now t
+latest-later now t range = later-least now (later_by max_wait now) (cond t.config.timed_from_send (final_times now (allocations t)) []) longest (by t.config.timed_from_send)
+  where
+    longest : now < later_by max_wait now
+    longest = omega (arith, range, le-min {k = suc now} {a = now + 9999 * 1_000_000_000} {b = 2 ^ 63 - 1} (omega arith) (omega (arith, range)))
+
+    by : (b : Bool) (m : ℕ) → Has m (cond b (final_times now (allocations t)) []) → now < m
+    by true m h = final-later now m (allocations t) h
+    by false m none = absurd none
+
 -- every time at which something is due is later, if those of the queue and the grants are
-all-later : (now : ℕ) (t : State) → IsReady now t → now ≤ 2 ^ 62 → (has_queued_request t ≡ true → now < pause_end t) → due (agent_of t) now ≡ None
+all-later : (now : ℕ) (t : State) → IsReady now t → now ≤ 2 ^ 62 → (has_request_to_send t ≡ true → now < pause_end t) → due (agent_of t) now ≡ None
     → ((g : Grant) → Has g t.grants → (m : ℕ) → Has m (grant_part now t g) → now < m) → ((m : ℕ) → Has m (keepalive_times t) → now < m) → now < least_due now t
 all-later now t ready range queued none_due each alive = later-least now max_time (due_times now t) (omega (arith, range)) by
   where
     by : (m : ℕ) → Has m (due_times now t) → now < m
-    by m (inl e) = rw e (omega (arith, range, le-min {k = suc now} {a = now + 9999 * 1_000_000_000} {b = 2 ^ 63 - 1} (omega arith) (omega (arith, range))))
+    by m (inl e) = rw e (latest-later now t range)
     by m (inr h) = whole (has-append m (queued_part t ++ transactions_part t ++ flat_map (grant_part now t) t.grants) (keepalive_times t) h)
       where
         sends : Has m (queued_part t) ⊎ Has m (transactions_part t) → now < m
@@ -333,12 +350,11 @@ first-sends now t e =
     by Authenticating is sends = cc
     by Closed is sends = cc
 
-pub front-sends : (now : ℕ) (t : State) (qs : List Queued) → t.queue ≡ qs → 0 < length qs → IsSome (queue_step now t).0
-front-sends now t [] e some = absurd (omega (arith, some))
-front-sends now t (q ∷ qs) e some = by (refreshes_first now t) refl
+pub front-sends : (now : ℕ) (t : State) (q : Queued) → first_left t t.queue ≡ Some q → IsSome (queue_step now t).0
+front-sends now t q e = by (refreshes_first now t) refl
   where
     by : (b : Bool) → refreshes_first now t ≡ b
-        → IsSome (option_map_or (λ (x : Queued). (Some x.packet, front_sent now x t)) (cond b None (slice_get t.queue 0)) (idle_step t.phase now t)).0
+        → IsSome (option_map_or (λ (x : Queued). (Some x.packet, front_sent now x (settled t))) (cond b None (first_left t t.queue)) (idle_step t.phase now t)).0
     by true e = first-sends now t e
     by false f = rw e refl
 
@@ -365,13 +381,13 @@ none-kept now m t none h = by (next_refresh now t) none
     by (Some p) some = cc
     by None some = kept (list_any (λ time. leb time now) (keepalive_times t)) refl some
 
--- while nothing is queued and the pause has ended, what is due is a refresh, or keeps the path alive
-refresh-or-later : (now : ℕ) (t : State) → IsReady now t → now ≤ 2 ^ 62 → due (agent_of t) now ≡ None → is_paused now t ≡ false → t.queue ≡ [] → least_due now t ≤ now
+-- while no request is to be sent and the pause has ended, what is due is a refresh, or keeps the path alive
+refresh-or-later : (now : ℕ) (t : State) → IsReady now t → now ≤ 2 ^ 62 → due (agent_of t) now ≡ None → is_paused now t ≡ false → has_request_to_send t ≡ false → least_due now t ≤ now
     → IsSome (idle_step t.phase now t).0
 refresh-or-later now t ready range none_due idle e reached = by ready.grants_later
   where
-    nothing_queued : has_queued_request t ≡ true → now < pause_end t
-    nothing_queued queued = let no : false ≡ true = rw e at queued in cc
+    nothing_queued : has_request_to_send t ≡ true → now < pause_end t
+    nothing_queued queued = let no : false ≡ true = sym e ∙ queued in cc
 
     by : (t.phase ≡ Allocated) ⊎ (t.grants ≡ []) → IsSome (idle_step t.phase now t).0
     by (inr no_grants) =
@@ -405,11 +421,11 @@ ready-busy now t ready range reached = busy-if now t (λ none. chosen none (is_p
         let pause = ltb-true now (pause_end t) idle in
         let later = all-later now t ready range (λ q. pause) none (λ g h m. grant-later now m t g (ready.alive g h) (λ d. pause)) (λ m h. paused-kept now m t pause h) in
         absurd (omega (arith, reached, later))
-    chosen none false idle = rw idle (sends t.queue refl)
+    chosen none false idle = rw idle (sends (first_left t t.queue) refl)
       where
-        sends : (qs : List Queued) → t.queue ≡ qs → IsSome (queue_step now t).0
-        sends [] e = rw (queue-empty now t e) (refresh-or-later now t ready range none idle e reached)
-        sends (q ∷ qs) e = front-sends now t (q ∷ qs) e (omega arith)
+        sends : (o : Option Queued) → first_left t t.queue ≡ o → IsSome (queue_step now t).0
+        sends None e = rw (queue-none now t (none-left now t e)) (refresh-or-later now t ready range none idle (left-none t t.queue e) reached)
+        sends (Some q) e = front-sends now t q e
 
 -- a queued reply can be sent
 pub reply-busy : (now : ℕ) (t : State) → has_reply t ≡ true → IsSome (next_transmit now t)
@@ -419,21 +435,21 @@ reply-busy now t waits = busy-if now t (λ none. chosen (is_paused now t) refl)
     replies [] e = let wrong : false ≡ true = e in cc
     replies (q ∷ qs) e = elim (cases_Bool q.is_request) [ inl is ↦ rw is (replies qs (rw is at e)) | inr is ↦ rw is refl ]
 
-    front : (qs : List Queued) → t.queue ≡ qs → list_any (λ q. not q.is_request) qs ≡ true → IsSome (queue_step now t).0
-    front [] e wrong = let impossible : false ≡ true = wrong in cc
-    front (q ∷ qs) e some = front-sends now t (q ∷ qs) e (omega arith)
+    front : (o : Option Queued) → first_left t t.queue ≡ o → IsSome (queue_step now t).0
+    front None e = let impossible : false ≡ true = sym (left-unreplied t t.queue e) ∙ waits in cc
+    front (Some q) e = front-sends now t q e
 
     chosen : (b : Bool) → is_paused now t ≡ b → IsSome (if is_paused now t then reply_step t else queue_step now t).0
     chosen true paused = rw paused (replies t.queue waits)
-    chosen false idle = rw idle (front t.queue refl waits)
+    chosen false idle = rw idle (front (first_left t t.queue) refl)
 
 -- a new client has something to send
 pub new-busy : (now : ℕ) (t : State) → t.phase ≡ New → t.last_send ≡ None → IsSome (next_transmit now t)
-new-busy now t new unsent = busy-if now t (λ none. rw idle (front t.queue refl))
+new-busy now t new unsent = busy-if now t (λ none. rw idle (front (first_left t t.queue) refl))
   where
     idle : is_paused now t ≡ false
     idle = rw unsent (false_from_ne_true (ltb now 0) (λ e. absurd (omega (arith, ltb-true now 0 e))))
 
-    front : (qs : List Queued) → t.queue ≡ qs → IsSome (queue_step now t).0
-    front [] e = rw (queue-empty now t e) (subst (λ p. IsSome (idle_step p now t).0) (sym new) refl)
-    front (q ∷ qs) e = front-sends now t (q ∷ qs) e (omega arith)
+    front : (o : Option Queued) → first_left t t.queue ≡ o → IsSome (queue_step now t).0
+    front None e = rw (queue-none now t (none-left now t e)) (subst (λ p. IsSome (idle_step p now t).0) (sym new) refl)
+    front (Some q) e = front-sends now t q e

@@ -1,7 +1,7 @@
 -- When a caller is to call again.
 use Rattle.turn_client_laws.proofs.Common.{◌≡◌, ◌⊎◌, ℕ, ◌+◌, ◌≤◌, Bool, true, false, cond, ltb, length, List, [], ◌∷◌, fold, min, max, refl, ap, ◌∙◌, inl, inr, arith, ◌||◌, ◌≢◌, All, Contains}
 use Rattle.turn_client_laws.proofs.Common.{min-le_left, min-le_right, min-eq_left, cases_lt, lt-ltb, or_left, or_right, All-nil, All-cons}
-use Rattle.turn_client_laws.proofs.Machine.{State, max_time, later_by, Phase, New, Allocated, due_times, has_event, has_reply, is_new, least_due, max_wait, next_wakeup, is_allocated, TurnEvent}
+use Rattle.turn_client_laws.proofs.Machine.{State, max_time, later_by, Phase, New, Allocated, due_times, final_times, has_event, has_reply, is_new, latest_wakeup, least_due, max_wait, next_wakeup, allocations, is_allocated, least-start, TurnEvent}
 use Rattle.turn_client_laws.specs.LawsWakeup.{IsLeast}
 use Rattle.turn_client_laws.proofs.PeerLemmas.{Contains-here, Contains-later}
 
@@ -46,8 +46,13 @@ from_first greatest first times h = rw e (by (fold-IsFolded first times))
     by f = record { one = which f.one; least = All-cons (λ other. fold min first times ≤ other) first times f.below f.below_all }
 
 -- the longest wait ends at the greatest `Instant` at most, so the minimum is one of the times
+pub latest-within : (now : ℕ) (s : State) → latest_wakeup now s ≤ max_time
+latest-within now s =
+    let finals : List ℕ = cond s.config.timed_from_send (final_times now (allocations s)) [] in
+    omega (arith, least-start (later_by max_wait now) finals, min-le_right (now + max_wait) max_time)
+
 pub due-IsLeast : (now : ℕ) (s : State) → IsLeast (least_due now s) (due_times now s)
-due-IsLeast now s = from_first max_time (later_by max_wait now) _ (min-le_right (now + max_wait) max_time)
+due-IsLeast now s = from_first max_time (latest_wakeup now s) _ (latest-within now s)
 
 pub wakeup-new : (has_given_up : Bool) (now : ℕ) (s : State) → s.phase ≡ New → next_wakeup has_given_up now s ≡ now
 wakeup-new given now s e = rw e refl

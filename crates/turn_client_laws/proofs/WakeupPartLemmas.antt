@@ -1,8 +1,8 @@
 -- The returned time, part by part.
 use Rattle.turn_client_laws.proofs.Common.{◌≡◌, ℕ, ◌+◌, ◌≤◌, max, min, cond, List, [], ◌∷◌, ◌++◌, map, filter_map, flat_map, fold, Option, Some, None, refl, ap, ◌∙◌, arith, option_to_list}
-use Rattle.turn_client_laws.proofs.Common.{min-le_right}
-use Rattle.turn_client_laws.proofs.Machine.{transaction_timeout, State, agent_of, max_time, later_by, Grant, end_of, has_queued_request, keepalive_times, least_due, max_wait, pause_end, refresh_of}
+use Rattle.turn_client_laws.proofs.Machine.{transaction_timeout, State, agent_of, max_time, Grant, end_of, has_request_to_send, keepalive_times, latest_wakeup, least_due, pause_end, refresh_of}
 use Rattle.turn_client_laws.proofs.Machine.{refresh_time, least-start}
+use Rattle.turn_client_laws.proofs.WakeupLemmas.{latest-within}
 use Rattle.turn_client_laws.specs.LawsBodies.{soonest, soonest_keepalive, soonest_queued, soonest_transaction}
 
 -- any start that is not above the greatest
@@ -69,7 +69,7 @@ module _ (now : ℕ) (s : State) (greatest : ℕ) (within : pause_end s ≤ grea
 
 -- ---- all of them
 
-queued-part : (s : State) (greatest : ℕ) → pause_end s ≤ greatest → fold min greatest (cond (has_queued_request s) (pause_end s ∷ []) []) ≡ cond (has_queued_request s) (pause_end s) greatest
+queued-part : (s : State) (greatest : ℕ) → pause_end s ≤ greatest → fold min greatest (cond (has_request_to_send s) (pause_end s ∷ []) []) ≡ cond (has_request_to_send s) (pause_end s) greatest
 queued-part s greatest within = grind arith
 
 in-row : (first q t e k : ℕ) → min (min (min (min first q) t) e) k ≡ min first (min q (min t (min e k)))
@@ -80,11 +80,11 @@ due-parts now s =
     least-append max_time start (queued ++ transactions ++ grants) (keepalive_times s) below
     ∙ (ap (λ x. min x (soonest_keepalive s)) (least-append max_time start (queued ++ transactions) grants below)
     ∙ (ap (λ x. min (min x (fold min max_time grants)) (soonest_keepalive s)) front
-    ∙ (in-row (later_by max_wait now) (soonest_queued s) (soonest_transaction s) (fold min max_time grants) (soonest_keepalive s)
-    ∙ ap (λ x. min (later_by max_wait now) (min (soonest_queued s) (min (soonest_transaction s) (min x (soonest_keepalive s))))) (grants-part now s max_time (pause-within s) s.grants))))
+    ∙ (in-row (latest_wakeup now s) (soonest_queued s) (soonest_transaction s) (fold min max_time grants) (soonest_keepalive s)
+    ∙ ap (λ x. min (latest_wakeup now s) (min (soonest_queued s) (min (soonest_transaction s) (min x (soonest_keepalive s))))) (grants-part now s max_time (pause-within s) s.grants))))
   where
     queued : List ℕ
-    queued = cond (has_queued_request s) (pause_end s ∷ []) []
+    queued = cond (has_request_to_send s) (pause_end s ∷ []) []
 
     transactions : List ℕ
     transactions = map (transaction_timeout (agent_of s).timers s.transport) s.transactions
@@ -93,19 +93,19 @@ due-parts now s =
     grants = flat_map (λ g. end_of now g ++ refresh_of s g) s.grants
 
     start : ℕ
-    start = min max_time (later_by max_wait now)
+    start = min max_time (latest_wakeup now s)
 
     below : start ≤ max_time
     below = omega arith
 
-    first : start ≡ later_by max_wait now
-    first = let within : later_by max_wait now ≤ max_time = min-le_right (now + max_wait) max_time in omega (arith, within)
+    first : start ≡ latest_wakeup now s
+    first = let within = latest-within now s in omega (arith, within)
 
-    front : fold min start (queued ++ transactions) ≡ min (min (later_by max_wait now) (soonest_queued s)) (soonest_transaction s)
+    front : fold min start (queued ++ transactions) ≡ min (min (latest_wakeup now s) (soonest_queued s)) (soonest_transaction s)
     front =
         least-append max_time start queued transactions below
         ∙ ap (λ x. min x (soonest_transaction s)) (
         least-from max_time start queued below
         ∙ (ap (λ x. min x (fold min max_time queued)) first
-        ∙ ap (min (later_by max_wait now)) (queued-part s max_time (pause-within s)))
+        ∙ ap (min (latest_wakeup now s)) (queued-part s max_time (pause-within s)))
         )

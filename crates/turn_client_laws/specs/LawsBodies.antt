@@ -9,7 +9,8 @@ use Rattle.turn_client_api.specs.declared.grant.Grant.TheVariants.{Allocation, C
 use Rattle.turn_client_api.specs.declared.grant.Progress.TheVariants.{Reserved}
 use Rattle.turn_client_api.specs.declared.state.Stream.{Stream}
 use Rattle.turn_client_api.specs.Calls.{is_number_taken}
-use Rattle.turn_client_api.specs.Due.{end_of, has_queued_request, keepalive_times, max_wait, pause_end, refresh_time}
+use Rattle.turn_client_api.specs.Due.{end_of, keepalive_times, latest_wakeup, pause_end, refresh_time}
+use Rattle.turn_client_api.specs.Queue.{has_request_to_send}
 
 -- ---- events
 
@@ -35,7 +36,7 @@ least_of times = fold min max_time times
 
 -- when a queued request may be sent
 abbrev pub soonest_queued : State → ℕ
-soonest_queued s = if has_queued_request s then pause_end s else max_time
+soonest_queued s = if has_request_to_send s then pause_end s else max_time
 
 -- when a transaction is retransmitted or times out
 abbrev pub soonest_transaction : State → ℕ
@@ -53,10 +54,10 @@ soonest_refresh s = max (pause_end s) (least_of (filter_map (refresh_time s) s.g
 abbrev pub soonest_keepalive : State → ℕ
 soonest_keepalive s = least_of (keepalive_times s)
 
--- the longest wait, or what is due before it
+-- the latest time to call again, or what is due before it
 abbrev pub soonest : ℕ → State → ℕ
 soonest now s =
-    min (later_by max_wait now)
+    min (latest_wakeup now s)
     (min (soonest_queued s) (min (soonest_transaction s) (min (min (soonest_end now s) (soonest_refresh s)) (soonest_keepalive s))))
 
 -- ---- channel numbers

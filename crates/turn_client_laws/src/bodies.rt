@@ -16,7 +16,7 @@ ghost use Rattle.turn_client_laws.specs.LawsBodies.{AreTakenUpTo, IsAsideFrom, I
 /// These times are the expiries of allocations, permissions and channels (RFC 8656, sections 8, 9 and 12),
 /// the deadlines of data connections that wait to be bound (RFC 6062, section 4.3), and those just after
 /// the time until which a channel is reserved. An expired allocation has none while a request for it is
-/// pending.
+/// pending, or its final expiry if requests are timed from when they are sent.
 pub fn nothing_expires_early()
     ensures { (now : ℕ) (s : State) → All (λ time. now < time) (expiry_times s) → expired_at None now s ≡ s }
 {}
@@ -30,9 +30,10 @@ pub fn events_are_bounded()
     ensures most { (s : State) → max_failures s ≤ length s.grants }
 {}
 
-/// The earliest time at which something is due is the minimum of its parts: the longest wait (our choice),
-/// a queued request, a transaction (RFC 8489, section 6.2.1), the expiry of a grant, and a refresh, which
-/// waits until the pause ends. A body can keep the minimum of each part.
+/// The earliest time at which something is due is the minimum of its parts: the longest wait (our choice), or
+/// the end of an allocation that is marked as expired, a queued request, a transaction (RFC 8489, section
+/// 6.2.1), the expiry of a grant, and a refresh, which waits until the pause ends. A body can keep the minimum
+/// of each part.
 pub fn least_time_has_parts()
     ensures { (now : ℕ) (s : State) → least_due now s ≡ soonest now s }
 {}

@@ -1,7 +1,8 @@
 """`paced`: requests that are timed from their first copies leave in their turn (RFC 8489, section 6.2.1).
 
 No request leaves for the first time within the pause after another packet that is no reply, unless a call between the two was made
-at an earlier time. And of no permission or channel it is told that it failed before a request for it has left.
+at an earlier time. None leaves for the first time once the client has ended, since its grants are gone. And of no permission or
+channel it is told that it failed before a request for it has left.
 """
 from . import stun
 from .lines import address_in, bytes_in, ip_in
@@ -14,12 +15,15 @@ class Sent:
     """What has left: when the last packet did that began a pause, and which requests, for which peers."""
 
     def __init__(self):
-        self.last, self.ids, self.peers = None, set(), set()
+        self.last, self.ids, self.peers, self.has_ended = None, set(), set(), False
+
+    def is_first(self, message):
+        """Whether this packet is a request that leaves for the first time."""
+        return message.kind == stun.REQUEST and message.id not in self.ids
 
     def is_early(self, call, message):
         """Whether this packet is a request that leaves for the first time, within the pause."""
-        is_new = message.kind == stun.REQUEST and message.id not in self.ids
-        return is_new and self.last is not None and call.time < self.last + PAUSE
+        return self.is_first(message) and self.last is not None and call.time < self.last + PAUSE
 
     def note(self, call, message):
         if message.kind == stun.REQUEST:
@@ -48,6 +52,8 @@ def faults(runs):
         peer = failed_peer(call)
         if peer is not None and peer not in sent.peers:
             yield call, f"{call.answer[0]} is told of {peer}, for which no request has left"
+        if call.name == "poll" and call.answer[0] == "closed":
+            sent.has_ended = True
         if call.name != "transmit" or call.answer[0] != "send":
             continue
         message = stun.message_of(bytes_in(call.answer[4]))
@@ -56,4 +62,6 @@ def faults(runs):
             continue
         if sent.is_early(call, message):
             yield call, f"a request leaves {call.time - sent.last} ns after the packet before it"
+        if sent.has_ended and sent.is_first(message):
+            yield call, "a request leaves for the first time though the client has ended"
         sent.note(call, message)

@@ -189,7 +189,7 @@ fn left_at(alloc: Global, now: u64) -> Result<usize, AllocError> {
         Grant::Connection(waiting()),
     ];
     let mut ledger = holding(alloc, &grants, &Purposes::none())?;
-    ledger.expire_grants(None, seconds(now));
+    ledger.expire_grants(false, None, seconds(now));
     Ok(ledger.table().count())
 }
 
@@ -200,6 +200,37 @@ fn deadlines(rt: &impl Abort, alloc: Global) -> Result<(), AllocError> {
     Ok(())
 }
 
+/// Whether an allocation of this first lifetime, in seconds, that was deleted at 100 s is left at this time, while the REFRESH
+/// has no response.
+fn is_awaited(
+    alloc: Global,
+    timed_from_send: bool,
+    first_lifetime: u64,
+    now: u64,
+) -> Result<bool, AllocError> {
+    let deleted = Relay {
+        relayed: peer(),
+        first_lifetime: first_lifetime.saturating_mul(1_000_000_000),
+        expiry: seconds(100),
+        is_expired: true,
+    };
+    let grants = [Grant::Allocation(deleted)];
+    let mut ledger = holding(alloc, &grants, &Purposes::one(refresh()))?;
+    ledger.expire_grants(timed_from_send, None, seconds(now));
+    Ok(ledger.table().count() == 1)
+}
+
+/// A REFRESH that no caller takes does not time out, if requests are timed from when they are sent: the allocation goes once the
+/// server has surely ended it.
+fn final_expiries(rt: &impl Abort, alloc: Global) -> Result<(), AllocError> {
+    same(rt, is_awaited(alloc, true, 1_800, 1_899)?, true);
+    same(rt, is_awaited(alloc, true, 1_800, 1_900)?, false);
+    same(rt, is_awaited(alloc, false, 1_800, 1_900)?, true);
+    same(rt, is_awaited(alloc, true, 60, 699)?, true);
+    same(rt, is_awaited(alloc, true, 60, 700)?, false);
+    Ok(())
+}
+
 #[test]
 fn worked_rows(rt: HostRuntime) -> Result<(), Fail> {
     numbers_left(&rt, rt.alloc())?;
@@ -207,5 +238,6 @@ fn worked_rows(rt: HostRuntime) -> Result<(), Fail> {
     refreshes(&rt, rt.alloc())?;
     wakeups(&rt, rt.alloc())?;
     deadlines(&rt, rt.alloc())?;
+    final_expiries(&rt, rt.alloc())?;
     Ok(())
 }

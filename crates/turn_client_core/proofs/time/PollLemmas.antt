@@ -1,8 +1,8 @@
 -- What `poll` does, step by step.
 use Rattle.turn_client_laws.proofs.Common.{◌≡◌, ◌∙◌, ℕ, true, false, List, [], ◌∷◌, ◌++◌, Option, Some, None, map, drop, fold, length, min, refl, suc, sym, ap, arith, find, flat_map, if◌then◌else◌}
 use Rattle.turn_client_laws.proofs.Common.{is_none, is_some, slice_get, fold-append, SocketAddr}
-use Rattle.turn_client_laws.proofs.Machine.{is_timed_out, transaction_timeout, Transaction, is_allocated, timers_of, has_event, has_queued_request, has_reply, keepalive_times, least_due, max_wait}
-use Rattle.turn_client_laws.proofs.Machine.{next_wakeup, pause_end, allocations, answer_by, answer_step, next_offer, offer_step, poll_step, timed_out_step, timed_step, State, max_time, later_by}
+use Rattle.turn_client_laws.proofs.Machine.{is_timed_out, transaction_timeout, Transaction, is_allocated, timers_of, has_event, has_request_to_send, has_reply, keepalive_times, latest_wakeup, least_due}
+use Rattle.turn_client_laws.proofs.Machine.{next_wakeup, pause_end, allocations, answer_by, answer_step, next_offer, offer_step, poll_step, timed_out_step, timed_step, State, max_time}
 use Rattle.turn_client_laws.proofs.Machine.{DataOffer, Relay, Phase, Allocated, Authenticating, Requesting, TurnPollRet}
 use Rattle.std.specs.Prelude.{◌&&◌, ◌||◌}
 use Rattle.turn_client_api.specs.declared.poll.TurnPollRet.TheVariants as Do
@@ -28,15 +28,20 @@ times-is now s pending found = rw (pending, found) refl
 
 -- ---- the next wake-up time
 
-pub least_due-is : (now : ℕ) (s : State) → fold min (fold min (fold min (fold min max_time (later_by max_wait now ∷ (if has_queued_request s then pause_end s ∷ [] else [])))
+pub least_due-is : (now : ℕ) (s : State) → fold min (fold min (fold min (fold min max_time (latest_wakeup now s ∷ (if has_request_to_send s then pause_end s ∷ [] else [])))
     (map (transaction_timeout (timers_of s.config) s.transport) s.transactions)) (flat_map (times_of now (pause_end s) s) s.grants)) (keepalive_times s) ≡ least_due now s
 least_due-is now s =
-    let queued : List ℕ = if has_queued_request s then pause_end s ∷ [] else [] in
+    let queued : List ℕ = if has_request_to_send s then pause_end s ∷ [] else [] in
     let sends = map (transaction_timeout (timers_of s.config) s.transport) s.transactions in
     let ends = flat_map (times_of now (pause_end s) s) s.grants in
-    let first = min max_time (later_by max_wait now) in
+    let first = min max_time (latest_wakeup now s) in
     sym (fold-append min first (queued ++ sends ++ ends) (keepalive_times s)
     ∙ ap (λ n. fold min n (keepalive_times s)) (fold-append min first (queued ++ sends) ends ∙ ap (λ n. fold min n ends) (fold-append min first queued sends)))
+
+-- with these for the first of them and the end of the pause
+pub least_due-by : (now first pause : ℕ) (s t : State) → s ≡ t → pause ≡ pause_end t → first ≡ fold min max_time (latest_wakeup now t ∷ (if has_request_to_send t then pause ∷ [] else []))
+    → fold min (fold min (fold min first (map (transaction_timeout (timers_of s.config) s.transport) s.transactions)) (flat_map (times_of now pause s) s.grants)) (keepalive_times s) ≡ least_due now t
+least_due-by now first pause s t same paused least = rw (same, least, paused) (least_due-is now t)
 
 -- ---- what times out
 

@@ -1,10 +1,9 @@
 -- What `poll_transmit` sends, step by step.
-use Rattle.turn_client_laws.proofs.Common.{◌≡◌, ◌∙◌, ℕ, Bool, true, false, List, [], ◌∷◌, Option, Some, None, append-nil, refl, sym, ap, false≢true, IsSome, if◌then◌else◌, filter_map, find, slice_get}
-use Rattle.turn_client_laws.proofs.Machine.{Transmit, TransportType, AddressFamily, due, is_due, Transaction, timers_of, is_paused, allocations, with_more_grants, request_started, first_allocate}
-use Rattle.turn_client_laws.proofs.Machine.{fresh_id, request_for, to_server, State, agent_of, idle_step, keepalive_step, next_refresh, queue_step, refresh_step, refreshes_first, sent, sent_at_once, transmit_step, Grant, Purpose}
-use Rattle.turn_client_laws.proofs.Machine.{Queued}
+use Rattle.turn_client_laws.proofs.Common.{◌≡◌, ◌∙◌, ℕ, true, false, List, [], ◌∷◌, Option, Some, None, append-nil, refl, sym, ap, false≢true, IsSome, filter_map, find, slice_get}
+use Rattle.turn_client_laws.proofs.Machine.{Transmit, TransportType, AddressFamily, due, is_due, Transaction, timers_of, allocations, with_more_grants, request_started, first_allocate}
+use Rattle.turn_client_laws.proofs.Machine.{fresh_id, request_for, to_server, State, agent_of, keepalive_step, next_refresh, refresh_step, sent, sent_at_once, transmit_step, Grant, Purpose}
 use Rattle.turn_client_core.specs.Outgoing.{Outgoing, packet_of}
-use Rattle.turn_client_core.specs.Sending.{front_step, resend_step, waiting_step}
+use Rattle.turn_client_core.specs.Sending.{resend_step, waiting_step}
 use Rattle.turn_client_grants.specs.Asked.{Asks}
 use Rattle.turn_client_grants.specs.Ledger.{Ledger, with_ledger}
 use Rattle.turn_client_grants.specs.Refresh.{first_refresh}
@@ -32,25 +31,6 @@ resends-first now s o times = by (find (is_due o.timers o.transport now) o.trans
         → sent_or (waiting_step now) s (resend_step now o) ≡ transmit_step now (with_outbox o s)
     by None e = rw (← times, e) refl
     by (Some t) e = rw (← times, e) refl
-
--- then the first queued packet, unless a refresh goes before it
-front-first : (now : ℕ) (s : State) (o : Outgoing) → refreshes_first now (with_outbox o s) ≡ false
-    → sent_or (idle_step s.phase now) s (front_step s.config.timed_from_send now o) ≡ queue_step now (with_outbox o s)
-front-first now s o later = by (slice_get o.queue 0) refl
-  where
-    by : (found : Option Queued) → slice_get o.queue 0 ≡ found → sent_or (idle_step s.phase now) s (front_step s.config.timed_from_send now o) ≡ queue_step now (with_outbox o s)
-    by None e = rw (later, e) refl
-    by (Some q) e = rw (later, e) refl
-
--- what is taken of the queue is sent next
-pub queued-some : (now : ℕ) (s : State) (o p : Outgoing) (packet : Transmit (List ℕ)) → refreshes_first now (with_outbox o s) ≡ false
-    → ◌≡◌ {A = Sent} (Some packet, p) (front_step s.config.timed_from_send now o) → ◌≡◌ {A = Packet × State} (Some packet, with_outbox p s) (queue_step now (with_outbox o s))
-queued-some now s o p packet later step = ap (sent_or (idle_step s.phase now) s) step ∙ front-first now s o later
-
--- with nothing queued, what the client has to request
-pub queued-none : (now : ℕ) (s : State) (o p : Outgoing) → refreshes_first now (with_outbox o s) ≡ false → ◌≡◌ {A = Sent} (None, p) (front_step s.config.timed_from_send now o)
-    → idle_step s.phase now (with_outbox p s) ≡ queue_step now (with_outbox o s)
-queued-none now s o p later step = ap (sent_or (idle_step s.phase now) s) step ∙ front-first now s o later
 
 -- ---- a request that is sent at once
 
@@ -107,19 +87,3 @@ resend-none now o after is = by (find (is_due o.timers o.transport now) o.transa
     by : (found : Option Transaction) → find (is_due o.timers o.transport now) o.transactions ≡ found → ◌≡◌ {A = Sent} (None, after) (resend_step now o) → after ≡ o
     by None e is = ap (λ (r : Sent). r.1) (rw e at is)
     by (Some t) e is = let clash : None ≡ Some (record (packet_of o o.local t.request) { to = t.to }) = ap (λ (r : Sent). r.0) (rw e at is) in cc
-
--- if no packet is queued, nothing changes
-pub front-same : (timed : Bool) (now : ℕ) (o after : Outgoing) → ◌≡◌ {A = Sent} (None, after) (front_step timed now o) → after ≡ o
-front-same timed now o after is = by (slice_get o.queue 0) refl is
-  where
-    by : (found : Option Queued) → slice_get o.queue 0 ≡ found → ◌≡◌ {A = Sent} (None, after) (front_step timed now o) → after ≡ o
-    by None e is = ap (λ (r : Sent). r.1) (rw e at is)
-    by (Some q) e is = let clash : None ≡ Some q.packet = ap (λ (r : Sent). r.0) (rw e at is) in cc
-
--- no packet is queued
-pub front-none : (timed : Bool) (now : ℕ) (o after : Outgoing) → ◌≡◌ {A = Sent} (None, after) (front_step timed now o) → o.queue ≡ []
-front-none timed now o after is = by o.queue refl is
-  where
-    by : (queue : List Queued) → o.queue ≡ queue → ◌≡◌ {A = Sent} (None, after) (front_step timed now o) → o.queue ≡ []
-    by [] e is = e
-    by (q ∷ later) e is = let clash : None ≡ Some q.packet = ap (λ (r : Sent). r.0) (rw e at is) in cc

@@ -74,6 +74,13 @@ impl Queue {
         }
     }
 
+    /// The packets in their order, for reading.
+    pub(crate) fn packets(&self) -> &VecDeque<Queued>
+        ensures { result.now.items ≡ self.now.items }
+    {
+        &self.packets
+    }
+
     /// Whether a reply to the server is queued.
     pub(crate) fn has_reply(&self) -> bool
         ensures { result ≡ list_any (λ q. not q.is_request) self.now.items }

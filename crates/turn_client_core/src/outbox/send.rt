@@ -1,7 +1,8 @@
 //! What is sent next (RFC 8489, section 6.2).
 
 ghost use Rattle.std.specs.Prelude.{◌≡◌, true, IfOk, IsSome, OnErr};
-ghost use Rattle.turn_client_core.specs.Outgoing.{with_room};
+ghost use Rattle.turn_client_api.specs.Queue.{without_request};
+ghost use Rattle.turn_client_core.specs.Outgoing.{with_room, without_front};
 ghost use Rattle.turn_client_core.specs.Sending.{begun_with, first_reply_step, front_step, resend_step};
 
 use crate::outbox::Outbox;
@@ -38,6 +39,34 @@ impl Outbox {
         ensures { (result, with_room self.old.room self.new) ≡ first_reply_step self.old }
     {
         self.queue.take_reply()
+    }
+
+    /// Removes so many packets at the front of the queue, whose requests are no longer outstanding.
+    pub(crate) fn drop_front(&mut self, count: usize)
+        ensures { with_room self.old.room self.new ≡ without_front count self.old }
+    {
+        for _round in 0..count {
+            self.drop_first();
+        }
+    }
+
+    /// Removes the first queued packet, whose request is no longer outstanding.
+    fn drop_first(&mut self)
+        ensures { with_room self.old.room self.new ≡ without_front 1 self.old }
+    {
+        match self.queue.pop_front() {
+            Some(queued) => self.end_queued(&queued),
+            None => {}
+        }
+    }
+
+    /// Drops the request of this packet. It is no longer outstanding.
+    fn end_queued(&mut self, queued: &Queued)
+        ensures { self.new ≡ record self.old { transactions = without_request self.old.transactions queued.now } }
+    {
+        if let Ok(header) = MessageHeader::from_bytes(queued.packet.payload.as_bytes()) {
+            self.end(header.transaction_id);
+        }
     }
 
     /// Removes and returns the first queued packet. If requests are timed from when they are sent, the waits of one

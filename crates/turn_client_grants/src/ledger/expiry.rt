@@ -7,11 +7,12 @@ ghost use Rattle.turn_client_api.specs.Grants.{is_channel_of};
 ghost use Rattle.turn_client_api.specs.Poll.{timed_out_purposes, allocation_expires, expired_at, expired_allocation, expired_in, last_channel_expired, refreshes_timed_out, set_free, unbound};
 ghost use Rattle.turn_client_api.specs.State.{State};
 ghost use Rattle.turn_client_grants.specs.Failures.{SparesReserved, event_room_for};
-ghost use Rattle.turn_client_grants.specs.Expiry.{channel_ended, expired_each};
+ghost use Rattle.turn_client_grants.specs.Expiry.{Becomes, channel_ended, expired_each};
 ghost use Rattle.turn_client_grants.specs.Ledger.{SameRoomBut, with_ledger};
 ghost use Rattle.turn_client_grants.specs.Table.{is_numbered};
 ghost use Rattle.turn_client_grants.specs.GrantFilter.{holds, purposes_in};
 
+use crate::due::final_expiry;
 use crate::grant_filter::GrantFilter;
 use crate::key::Key;
 use crate::kind::family_of;
@@ -29,39 +30,44 @@ use turn_types::AddressFamily;
 impl GrantLedger {
     /// Processes all that expires at this time or earlier, allocation by allocation in the order in which
     /// the server granted them, and the time-out of this request, if there is one.
-    pub fn expire_grants(&mut self, timed_out: Option<TransactionId>, now: Instant)
-        ensures state { (s : State) → with_ledger self.new s ≡ expired_at timed_out now (with_ledger self.old s) }
+    pub fn expire_grants(
+        &mut self,
+        timed_from_send: bool,
+        timed_out: Option<TransactionId>,
+        now: Instant,
+    )
+        ensures state { Becomes timed_from_send self.old self.new (expired_at timed_out now) }
         ensures room { SameRoomBut 0 0 self.old self.new }
     {
         match timed_out {
-            Some(_) => self.expire_each(timed_out, now),
-            None => self.expire_by_time(now),
+            Some(_) => self.expire_each(timed_from_send, timed_out, now),
+            None => self.expire_by_time(timed_from_send, now),
         }
     }
 
     /// Processes all that expires at this time or earlier, if no request timed out. Before the earliest
     /// time at which a grant expires that is nothing.
-    fn expire_by_time(&mut self, now: Instant)
-        ensures state { (s : State) → with_ledger self.new s ≡ expired_at None now (with_ledger self.old s) }
+    fn expire_by_time(&mut self, timed_from_send: bool, now: Instant)
+        ensures state { Becomes timed_from_send self.old self.new (expired_at None now) }
         ensures room { SameRoomBut 0 0 self.old self.new }
     {
         let is_early = self.table.is_early(now);
         if is_early {
             return;
         }
-        self.expire_each(None, now);
+        self.expire_each(timed_from_send, None, now);
     }
 
     /// The same, whether or not something is due.
-    fn expire_each(&mut self, timed_out: Option<TransactionId>, now: Instant)
-        ensures state { (s : State) → with_ledger self.new s ≡ expired_at timed_out now (with_ledger self.old s) }
+    fn expire_each(&mut self, timed_from_send: bool, timed_out: Option<TransactionId>, now: Instant)
+        ensures state { Becomes timed_from_send self.old self.new (expired_at timed_out now) }
         ensures room { SameRoomBut 0 0 self.old self.new }
     {
         let purposes = self.timed_out_purposes(&timed_out);
         let first = self.table.nth_allocation(0);
         let second = self.table.nth_allocation(1);
-        self.expire_one(&first, &timed_out, &purposes, now);
-        self.expire_one(&second, &timed_out, &purposes, now);
+        self.expire_one(&first, timed_from_send, &timed_out, &purposes, now);
+        self.expire_one(&second, timed_from_send, &timed_out, &purposes, now);
     }
 
     /// The purposes of the request that timed out, if there is one.
@@ -78,16 +84,19 @@ impl GrantLedger {
     fn expire_one(
         &mut self,
         relay: &Option<Relay>,
+        timed_from_send: bool,
         timed_out: &Option<TransactionId>,
         purposes: &Purposes,
         now: Instant,
     )
-        ensures state { (s : State) → with_ledger self.new s
-            ≡ expired_each timed_out.now (purposes_in purposes.now) now (with_ledger self.old s) (option_to_list relay.now) }
+        ensures state { Becomes timed_from_send self.old self.new
+            (λ s. expired_each timed_out.now (purposes_in purposes.now) now s (option_to_list relay.now)) }
         ensures room { SameRoomBut 0 0 self.old self.new }
     {
         match relay {
-            Some(relay) => self.expire_allocation(relay, timed_out, purposes, now),
+            Some(relay) => {
+                self.expire_allocation(relay, timed_from_send, timed_out, purposes, now)
+            }
             None => {}
         }
     }
@@ -96,15 +105,16 @@ impl GrantLedger {
     fn expire_allocation(
         &mut self,
         relay: &Relay,
+        timed_from_send: bool,
         timed_out: &Option<TransactionId>,
         purposes: &Purposes,
         now: Instant,
     )
-        ensures state { (s : State)
-            → with_ledger self.new s ≡ expired_allocation timed_out.now (purposes_in purposes.now) now (with_ledger self.old s) relay.now }
+        ensures state { Becomes timed_from_send self.old self.new
+            (λ s. expired_allocation timed_out.now (purposes_in purposes.now) now s relay.now) }
         ensures room { SameRoomBut 0 0 self.old self.new }
     {
-        let goes = self.allocation_expires(relay, purposes, now);
+        let goes = self.allocation_expires(relay, timed_from_send, purposes, now);
         if goes {
             return self.remove(&GrantFilter::OfFamily(family_of(relay.relayed)));
         }
@@ -112,15 +122,24 @@ impl GrantLedger {
     }
 
     /// Whether the allocation is removed: at its expiry, unless it is marked as expired and a request for
-    /// it still awaits its response.
-    fn allocation_expires(&self, relay: &Relay, purposes: &Purposes, now: Instant) -> bool
-        ensures { (s : State) → result ≡ allocation_expires (purposes_in purposes.now) now (with_ledger self.now s) relay.now }
+    /// it still awaits its response. If requests are timed from when they are sent, none is awaited past the final expiry: the
+    /// caller may never take the request.
+    fn allocation_expires(
+        &self,
+        relay: &Relay,
+        timed_from_send: bool,
+        purposes: &Purposes,
+        now: Instant,
+    ) -> bool
+        ensures { (s : State) → s.config.timed_from_send ≡ timed_from_send
+            → result ≡ allocation_expires (purposes_in purposes.now) now (with_ledger self.now s) relay.now }
     {
         let grant = Grant::Allocation(*relay);
         relay.expiry <= now
             && (purposes.are_for(&grant)
                 || !has_request(self.table.listed(), &grant)
-                || !relay.is_expired)
+                || !relay.is_expired
+                || final_expiry(relay) <= now && timed_from_send)
     }
 
     /// Processes what expires in the allocation of this family, which stays, from the inside out.

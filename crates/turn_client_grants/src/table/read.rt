@@ -16,14 +16,14 @@ ghost use Rattle.turn_client_api.specs.declared.grant.Grant.TheVariants.{Channel
 ghost use Rattle.turn_client_api.specs.declared.grant.Progress.TheVariants.{Pending};
 ghost use Rattle.turn_client_api.specs.declared.state.Phase.TheVariants.{Allocated};
 ghost use Rattle.turn_client_grants.specs.Due.{all_times, relay_ends};
-ghost use Rattle.turn_client_api.specs.Due.{expiry_times};
+ghost use Rattle.turn_client_api.specs.Due.{expiry_times, final_times};
 ghost use Rattle.turn_client_grants.specs.Lists.{both_of, first_among, with_ahead};
 ghost use Rattle.turn_client_grants.specs.NextPermission.{next_permitted};
 ghost use Rattle.turn_client_grants.specs.Refresh.{first_refresh};
 ghost use Rattle.turn_client_grants.specs.Table.{is_numbered, with_table};
 ghost use Rattle.turn_client_grants.specs.GrantFilter.{purposes_in};
 
-use crate::due::{after_pause, least};
+use crate::due::{after_pause, final_expiry, least};
 use crate::index::FEW;
 use crate::key::Key;
 use crate::kind::{is_of, is_of_family};
@@ -313,6 +313,15 @@ impl GrantTable {
         least(second, later)
     }
 
+    /// The earliest of the time and those at which an allocation that is marked as expired ends at the latest, if a response is
+    /// not awaited for ever. A past one is not waited for.
+    pub fn before_final(&self, time: Instant, now: Instant) -> Instant
+        ensures { result ≡ fold min time (final_times now (filter_map as_allocation self.now.grants)) }
+    {
+        let first = sooner_final(time, &self.summary.first, now);
+        sooner_final(first, &self.summary.second, now)
+    }
+
     /// The purpose of the first refresh, if grants are refreshed so long ahead.
     pub fn first_refresh(&self, now: Instant, ahead: Duration) -> Option<Purpose>
         ensures { (s : State) → result
@@ -410,6 +419,18 @@ fn relay_end(relay: &Option<Relay>, now: Instant) -> Option<Instant>
     match relay {
         Some(relay) if now < relay.expiry => Some(relay.expiry),
         _ => None,
+    }
+}
+
+/// The earlier of the time and the final expiry of the allocation, if that is to be waited for.
+fn sooner_final(time: Instant, relay: &Option<Relay>, now: Instant) -> Instant
+    ensures { result ≡ fold min time (final_times now (option_to_list relay.now)) }
+{
+    match relay {
+        Some(relay) if relay.is_expired && now < final_expiry(relay) => {
+            time.min(final_expiry(relay))
+        }
+        _ => time,
     }
 }
 

@@ -68,7 +68,12 @@ impl Plain {
     }
 
     /// All that expires by this time, and what the request that timed out was made for.
-    pub(crate) fn expire_grants(&mut self, id: Option<u8>, now: u64) -> Result<(), AllocError> {
+    pub(crate) fn expire_grants(
+        &mut self,
+        timed_from_send: bool,
+        id: Option<u8>,
+        now: u64,
+    ) -> Result<(), AllocError> {
         let given = match id {
             Some(id) => self.asked_by(id),
             None => Given::none(None),
@@ -78,9 +83,9 @@ impl Plain {
             return Ok(());
         };
         let second = self.find(Kind::Allocation, 1 - first.key.min(1));
-        self.expire_one(&first, &given, now)?;
+        self.expire_one(&first, timed_from_send, &given, now)?;
         match second {
-            Some(second) => self.expire_one(&second, &given, now),
+            Some(second) => self.expire_one(&second, timed_from_send, &given, now),
             None => Ok(()),
         }
     }
@@ -101,8 +106,16 @@ impl Plain {
     }
 
     /// Removes the allocation with all that is in it, or what expires in it.
-    fn expire_one(&mut self, relay: &Row, given: &Given, now: u64) -> Result<(), AllocError> {
-        let is_kept = relay.is_marked && self.has_request(relay) && !given.names(relay);
+    fn expire_one(
+        &mut self,
+        relay: &Row,
+        timed_from_send: bool,
+        given: &Given,
+        now: u64,
+    ) -> Result<(), AllocError> {
+        let is_given_up = timed_from_send && relay.final_expiry() <= now;
+        let is_awaited = self.has_request(relay) && !given.names(relay) && !is_given_up;
+        let is_kept = relay.is_marked && is_awaited;
         if relay.until <= now && !is_kept {
             return self.step(relay, Step::All, given, now, Reported::Never);
         }

@@ -21,6 +21,14 @@ impl Row {
         60 * SECOND
     }
 
+    /// When the allocation ends at the latest if requests are timed from when they are sent: its first lifetime after its
+    /// expiry, or 600 s after it.
+    pub(crate) fn final_expiry(&self) -> u64 {
+        self.until
+            .saturating_add(self.lifetime.max(600 * SECOND))
+            .min((1 << 63) - 1)
+    }
+
     /// The expiry or the deadline to wait for. The past expiry of an allocation is none.
     fn end(&self, now: u64) -> Option<u64> {
         let is_awaited = match self.kind {

@@ -107,14 +107,20 @@ pub(crate) fn delete_answered(
     plain.clear()
 }
 
+/// Whether the requests are timed from when they are sent: those of every other change are.
+fn is_timed_from_send(draw: &Draw) -> bool {
+    draw.n % 2 == 0
+}
+
 /// What expires by now, without a request that timed out.
 pub(crate) fn expire_grants(
     ledger: &mut GrantLedger,
     plain: &mut Plain,
     draw: &Draw,
 ) -> Result<(), AllocError> {
-    ledger.expire_grants(None, at(draw.now));
-    plain.expire_grants(None, draw.now)
+    let timed_from_send = is_timed_from_send(draw);
+    ledger.expire_grants(timed_from_send, None, at(draw.now));
+    plain.expire_grants(timed_from_send, None, draw.now)
 }
 
 /// What expires by now, and what a request that timed out was made for.
@@ -123,6 +129,7 @@ pub(crate) fn expire_given_up(
     plain: &mut Plain,
     draw: &Draw,
 ) -> Result<(), AllocError> {
-    ledger.expire_grants(Some(id(draw.m)), at(draw.now));
-    plain.expire_grants(Some(draw.m), draw.now)
+    let timed_from_send = is_timed_from_send(draw);
+    ledger.expire_grants(timed_from_send, Some(id(draw.m)), at(draw.now));
+    plain.expire_grants(timed_from_send, Some(draw.m), draw.now)
 }

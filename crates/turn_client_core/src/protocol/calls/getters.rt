@@ -6,7 +6,7 @@ ghost use Rattle.turn_client_api.specs.Addresses.{permitted_left, relayed_left};
 ghost use Rattle.turn_client_api.specs.Calls.{can_send_to, permissions_of, relayed_addresses_of};
 ghost use Rattle.turn_client_api.specs.Connections.{is_connected, is_connecting};
 ghost use Rattle.turn_client_api.specs.Grants.{channel_peer, first_in, has_active_permission};
-ghost use Rattle.turn_client_api.specs.RequestViews.{queued_request_count, viewed_request};
+ghost use Rattle.turn_client_api.specs.RequestViews.{viewed_request};
 ghost use Rattle.turn_client_grants.specs.NextPermission.{next_permission};
 
 use crate::protocol::TurnClientProtocol;
@@ -44,13 +44,6 @@ impl TurnClientProtocol {
         let purposes = self.ledger.table().purposes_of(id);
         let resends = self.outbox.agent().resends(id);
         RequestView::new(purposes.first, purposes.second, resends)
-    }
-
-    /// How many requests wait to be sent for the first time.
-    pub fn queued_requests(&self) -> usize
-        ensures { result ≡ queued_request_count self.now }
-    {
-        self.outbox.queue().requests()
     }
 
     /// The transport over which its allocations relay.

@@ -73,7 +73,10 @@ impl TurnClientProtocol {
                 }
             }
             Phase::Authenticating => self.end_unallocated(&given),
-            Phase::Allocated => self.ledger.expire_grants(given, now),
+            Phase::Allocated => {
+                let timed_from_send = self.config.requests_timed_from_send();
+                self.ledger.expire_grants(timed_from_send, given, now);
+            }
             Phase::Closed => return TurnPollRet::Closed,
         }
         self.answer(&given, now)

@@ -8,7 +8,7 @@ ghost use Rattle.turn_client_api.specs.Effect.{closed};
 ghost use Rattle.turn_client_api.specs.Requests.{fresh_id};
 ghost use Rattle.turn_client_api.specs.Transmit.{idle_step, keepalive_step, next_queued, next_refresh, next_transmit, queue_step, refresh_step, refreshes_first, sent_at_once};
 ghost use Rattle.turn_client_api.specs.Transmit.{transmit_step};
-ghost use Rattle.turn_client_core.specs.Sending.{waiting_step};
+ghost use Rattle.turn_client_core.specs.Sending.{placed_step, waiting_step};
 ghost use Rattle.turn_client_core.specs.Wanted.{SendWantsMemory};
 
 use crate::protocol::TurnClientProtocol;
@@ -74,8 +74,8 @@ impl TurnClientProtocol {
         self.send_next(now)
     }
 
-    /// Outside the pause: a refresh that goes before what is queued, the first queued packet, or the next
-    /// request that the client has to make.
+    /// Outside the pause: a refresh that goes before what is queued, the first queued packet that has not ended, or
+    /// the next request that the client has to make.
     fn send_next(&mut self, now: Instant) -> Result<Option<Transmit<Data>>, AllocError>
         ensures step { IfOk result (λ packet. (packet, self.new) ≡ queue_step now self.old) }
         ensures err { OnErr result (self.new ≡ self.old) }
@@ -86,11 +86,19 @@ impl TurnClientProtocol {
         if refreshes_first {
             return self.send_asked(now);
         }
-        let timed_from_send = self.config.requests_timed_from_send();
-        if let Some(packet) = self.outbox.take_front(timed_from_send, now) {
-            return Ok(Some(packet));
+        match self.next_place() {
+            Some(place) => Ok(self.send_queued(place, now)),
+            None => self.send_asked(now),
         }
-        self.send_asked(now)
+    }
+
+    /// The queued packet at this place. Those before it, which have ended, are dropped.
+    fn send_queued(&mut self, place: usize, now: Instant) -> Option<Transmit<Data>>
+        ensures { (result, self.new) ≡ placed_step place now self.old }
+    {
+        let timed_from_send = self.config.requests_timed_from_send();
+        self.outbox.drop_front(place);
+        self.outbox.take_front(timed_from_send, now)
     }
 
     /// Whether a refresh is due that goes before what is queued: so it does if requests are timed from when they

@@ -2,9 +2,10 @@
 
 ghost use Rattle.std.specs.Prelude.{◌≡◌, ◌||◌, ◌∷◌, [], fold, if◌then◌else◌, min, not, option_to_list, false};
 ghost use Rattle.std.specs.Option.{option_map_or};
-ghost use Rattle.turn_client_api.specs.Due.{has_allocation_in_use, has_event, has_queued_request, has_reply, is_paused, keepalive_times, least_due, max_wait};
+ghost use Rattle.turn_client_api.specs.Due.{has_allocation_in_use, has_event, has_reply, is_paused, keepalive_times, latest_wakeup, least_due};
 ghost use Rattle.turn_client_api.specs.Due.{next_wakeup, pause_end};
-ghost use Rattle.turn_client_api.specs.State.{max_time, later_by};
+ghost use Rattle.turn_client_api.specs.Queue.{has_request_to_send};
+ghost use Rattle.turn_client_api.specs.State.{max_time};
 
 use crate::protocol::TurnClientProtocol;
 use std::time::Duration;
@@ -85,13 +86,25 @@ impl TurnClientProtocol {
         is_in_use(&first) || is_in_use(&second)
     }
 
-    /// The end of the longest wait, or that of the pause if a request is queued and it is sooner.
+    /// The latest time, or the end of the pause if a queued request is to be sent and it is sooner.
     fn first_due(&self, now: Instant, pause: Instant) -> Instant
-        ensures { result ≡ fold min max_time (later_by max_wait now ∷ (if has_queued_request self.now then pause ∷ [] else [])) }
+        ensures { result ≡ fold min max_time (latest_wakeup now self.now ∷ (if has_request_to_send self.now then pause ∷ [] else [])) }
+    {
+        let latest = self.latest_wakeup(now);
+        if self.has_request_to_send() {
+            return latest.min(pause);
+        }
+        latest
+    }
+
+    /// When the caller is to call `poll` again at the latest: at the end of the longest wait, or, if requests are timed
+    /// from when they are sent, when an allocation that is marked as expired ends, if that is sooner.
+    fn latest_wakeup(&self, now: Instant) -> Instant
+        ensures { result ≡ latest_wakeup now self.now }
     {
         let latest = now.plus(Duration::from_secs(MAX_WAIT_SECONDS));
-        if self.outbox.queue().has_request() {
-            return latest.min(pause);
+        if self.config.requests_timed_from_send() {
+            return self.ledger.table().before_final(latest, now);
         }
         latest
     }

@@ -31,6 +31,6 @@ returns c =
           ∙ authenticating-is given c.args.now after
           ∙ timed Authenticating w.in-Authenticating.is
       | in-Allocated w ↦
-          ap (answer_step given c.args.now) (w.self-is ∙ w.expire_grants.ensures.state after)
+          ap (answer_step given c.args.now) (w.self-is ∙ w.expire_grants.ensures.state after (sym w.requests_timed_from_send-timed_from_send.ensures))
           ∙ timed Allocated w.in-Allocated.is
     ])
