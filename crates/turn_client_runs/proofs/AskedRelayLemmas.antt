@@ -12,7 +12,7 @@ use Rattle.std.proofs.Math.Seq.{drop-append_seam, take-append_seam}
 use Rattle.turn_client_runs.specs.CutRelayRows.{AskedRelayStaysUp, IsStale, LastsThoughAsked, asked_calls, over_tcp, piece_call}
 use Rattle.turn_client_runs.specs.History.{History, IsSeldom, all_waits, no_history, with_call}
 use Rattle.turn_client_runs.specs.InPieces.{AreCalm, IsAsking, IsCalmByInputs, RunsInPieces, asks_again, ends_request, made_before, with_all, with_input, with_inputs}
-use Rattle.turn_client_runs.specs.Lasting.{HasRoom, HoldsAtMost, IsInForce, IsSteady, ahead_of, expiry_of}
+use Rattle.turn_client_runs.specs.Lasting.{HasRoom, HoldsAtMost, IsInForce, IsSteady, ahead_of, expiry_of, queue_ahead}
 use Rattle.turn_client_runs.specs.Late.{HasRoomBehind, IsSteadyBehind}
 use Rattle.turn_client_runs.specs.OnTime.{IsOnTime, time_of}
 use Rattle.turn_client_runs.proofs.CutRelayLemmas.{all-waits, begun, first-after, first-handled, id, message-framed, place-handled, sends, sent, text, waiting}
@@ -226,8 +226,8 @@ module _ (s : State) (some : IsSome s.held) (front : List ℕ) (b : ℕ) (bytes 
     few = let none = none-challenged in omega (arith, none);
   }
 
-  waits-short : length (Rattle.turn_client_laws.specs.Handled.processed asking).1.queue ≤ 1
-  waits-short = subst (λ (p : Outcome × State). length p.1.queue ≤ 1) (sym stepped) (omega arith)
+  waits-short : queue_ahead (Rattle.turn_client_laws.specs.Handled.processed asking).1 ≤ 1
+  waits-short = subst (λ (p : Outcome × State). queue_ahead p.1 ≤ 1) (sym stepped) (omega arith)
 
   -- ---- the run
 

@@ -8,7 +8,7 @@ use Rattle.turn_client_runs.proofs.DeliveryLemmas.{datagram-brings, input-return
 use Rattle.turn_client_runs.proofs.PeerLemmas.{call-answered}
 use Rattle.turn_client_runs.proofs.QuietLemmas.{calls-keep}
 use Rattle.turn_client_runs.proofs.RunGrants.{Keeps, call-keeps, first-keeps}
-use Rattle.turn_client_runs.proofs.SentRuns.{Stays, Stays-KeepsAllEdits}
+use Rattle.turn_client_runs.proofs.SentWalk.{Stays, Stays-KeepsAllEdits}
 
 -- a datagram from the server is processed as such
 module _ (transport : TransportType) (from to : SocketAddr) (bytes : List ℕ) (now : ℕ) where

@@ -1,7 +1,7 @@
 -- `poll` waits for the expiry of each allocation.
 use Rattle.turn_client_laws.proofs.Common.{◌||◌, ℕ, ◌<◌, ◌≤◌, max, Bool, cond, List, [], ◌∷◌, ◌++◌, map, flat_map, Option, Some, None, arith, inl, inr, refl, is_some, lt-ltb, SocketAddr}
 use Rattle.turn_client_laws.proofs.Machine.{timed_out_transaction, transaction_timeout, State, agent_of, max_time, Grant, Allocation, Relay, TurnPollRet, Phase, New, Requesting, Authenticating}
-use Rattle.turn_client_laws.proofs.Machine.{Allocated, Closed, is_allocated, due_times, end_of, has_event, has_queued_request, has_reply, is_new, keepalive_times, least_due, next_wakeup, pause_end}
+use Rattle.turn_client_laws.proofs.Machine.{Allocated, Closed, is_allocated, due_times, end_of, has_event, has_request_to_send, has_reply, is_new, keepalive_times, least_due, next_wakeup, pause_end}
 use Rattle.turn_client_laws.proofs.Machine.{refresh_of, closed, transaction_ended, allocations, answer_by, answer_step, is_listed_for_allocation, expired_at, next_offer, offer_step, poll_step}
 use Rattle.turn_client_laws.proofs.Machine.{timed_out_step, timed_step, Has, flat_map-has, has-left, has-right, least-le}
 use Rattle.turn_client_laws.proofs.Laws.{by_found, by_test, contains-has}
@@ -14,7 +14,7 @@ expiry-due now s a there later =
     inr (has-left a.expiry (requests ++ timeouts ++ flat_map of_grant s.grants) (keepalive_times s) (has-right a.expiry (requests ++ timeouts) (flat_map of_grant s.grants) due))
   where
     requests : List ℕ
-    requests = cond (has_queued_request s) (pause_end s ∷ []) []
+    requests = cond (has_request_to_send s) (pause_end s ∷ []) []
 
     timeouts : List ℕ
     timeouts = map (transaction_timeout (agent_of s).timers s.transport) s.transactions

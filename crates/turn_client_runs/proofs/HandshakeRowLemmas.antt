@@ -1,5 +1,5 @@
 -- A handshake that meets all premises.
-use Rattle.turn_client_laws.proofs.Common.{◌≡◌, ◌∙◌, ℕ, ◌+◌, ◌%◌, ◌^◌, ◌<◌, ◌≤◌, Bool, true, false, List, [], ◌∷◌, ◌++◌, length, Some, ap, arith, eqb, inl, inr, refl, subst, sym, find, not}
+use Rattle.turn_client_laws.proofs.Common.{◌≡◌, ◌∙◌, ℕ, ◌+◌, ◌^◌, ◌<◌, ◌≤◌, true, false, List, [], ◌∷◌, ◌++◌, length, Some, ap, arith, eqb, inl, inr, refl, subst, sym}
 use Rattle.turn_client_laws.proofs.Common.{cases_Bool, eqb-true, SocketAddr}
 use Rattle.turn_client_laws.proofs.Machine.{seen_after, attributes_of, id_of, type_of, AddsAttribute, IsWritten, header_of, with_attribute, Error, Transmit, IsMessage-no_fault, attributes_of-is}
 use Rattle.turn_client_laws.proofs.Machine.{Challenge, is_unsigned, with_integrity, IsValidated, held_key, validation_of, first_sent, behind_id, next_id, Transaction, Config, State, auth_of, Udp}
@@ -8,7 +8,6 @@ use Rattle.turn_client_laws.proofs.Machine.{allocate_granted, new_allocation, re
 use Rattle.turn_client_laws.proofs.Machine.{lifetime_in, Outcome, is_message, message_step, signed_step, poll_step, first_allocate, fresh_id, is_taken, listings, request_for, to_server, state_after}
 use Rattle.turn_client_laws.proofs.Machine.{state_after_all, same_address-self}
 use Rattle.turn_client_laws.proofs.Laws.{relayed_v4}
-use Rattle.std.specs.Prelude.{unwrap_or}
 use Rattle.turn_stun.specs.MessageType.{class_of}
 use Rattle.turn_stun.specs.XorAddress.{xor_value}
 use Rattle.turn_stun.proofs.WriteLemmas.{IsWritten-IsMessage, header_of-IsMessage, header_of-IsWritten, with_attribute-AddsAttribute, with_attribute-IsWritten}
@@ -17,18 +16,19 @@ use Rattle.turn_auth.specs.declared.integrity.IntegrityAlgorithm.TheVariants.{Sh
 use Rattle.turn_client_api.specs.declared.poll.TurnPollRet.TheVariants.{WaitUntil}
 use Rattle.turn_client_runs.specs.Handshake.{IsAllocating, IsFirstChallenge, RunsHandshake}
 use Rattle.turn_client_runs.specs.HandshakeRows.{HandshakeIsWorked, allocated_text, allocation_packet, challenge_text, handshake_calls, new_client}
-use Rattle.turn_client_runs.specs.Lasting.{HoldsAtMost}
+use Rattle.turn_client_runs.specs.Lasting.{HoldsAtMost, queue_ahead}
 use Rattle.turn_client_runs.specs.OnTime.{IsFromServer, IsInTime}
 use Rattle.turn_client_runs.specs.Server.{from_server}
-use Rattle.turn_client_runs.proofs.HandshakeLemmas.{run-steadily, second-judged}
+use Rattle.turn_client_runs.proofs.HandshakeLemmas.{run-steadily, second-judged, small-id}
 use Rattle.turn_client_runs.proofs.LastingRowLemmas.{all-none, all-one, at-once, eqb-self, on-time}
 use Rattle.turn_client_runs.proofs.LastingRuns.{arrives}
+use Rattle.turn_client_runs.proofs.LastingStands.{ahead-queued}
 use Rattle.turn_client_runs.proofs.ServerLemmas.{holds-true}
 use Rattle.turn_client_runs.proofs.SignedBytes.{mac-added, signed-holds, signed-message}
 
 -- ---- the challenge
 
-abbrev held : Challenge
+abbrev pub held : Challenge
 held = record { realm = 0x72 ∷ 0x65 ∷ 0x61 ∷ 0x6c ∷ 0x6d ∷ []; nonce = 0x6e ∷ 0x6f ∷ 0x6e ∷ 0x63 ∷ 0x65 ∷ []; algorithm = Sha1; password_algorithms = [] }
 
 module _ (id : ℕ) (i : id < 2 ^ 96) where
@@ -70,20 +70,20 @@ module _ (id : ℕ) (i : id < 2 ^ 96) where
   nonce-added : AddsAttribute with_realm (challenge_text id) 0x0015 held.nonce
   nonce-added = with_attribute-AddsAttribute 0x0015 held.nonce with_realm realm-written (omega arith) (omega (arith, realm-len))
 
-  challenge-id : id_of (challenge_text id) ≡ id
+  pub challenge-id : id_of (challenge_text id) ≡ id
   challenge-id = nonce-added.id ∙ realm-added.id ∙ code-added.id ∙ (header_of-IsMessage 0x0113 id (omega arith) i).has_id
 
-  challenge-type : type_of (challenge_text id) ≡ 0x0113
+  pub challenge-type : type_of (challenge_text id) ≡ 0x0113
   challenge-type = nonce-added.type ∙ realm-added.type ∙ code-added.type ∙ (header_of-IsMessage 0x0113 id (omega arith) i).has_type
 
-  challenge-attributes : attributes_of (challenge_text id)
+  pub challenge-attributes : attributes_of (challenge_text id)
       ≡ record { offset = length header; kind = 0x0009; value = 0 ∷ 0 ∷ 4 ∷ 1 ∷ [] }
       ∷ record { offset = length with_code; kind = 0x0014; value = held.realm }
       ∷ record { offset = length with_realm; kind = 0x0015; value = held.nonce }
       ∷ []
   challenge-attributes = rw (nonce-added.attributes, realm-added.attributes, code-added.attributes, attributes_of-is header 0x0113 id [] (header_of-IsMessage 0x0113 id (omega arith) i)) refl
 
-  challenge-message : is_message (challenge_text id) ≡ true
+  pub challenge-message : is_message (challenge_text id) ≡ true
   challenge-message = rw (IsMessage-no_fault (challenge_text id) _ _ _ (IsWritten-IsMessage (challenge_text id) nonce-written)) refl
 
 -- ---- the success to an ALLOCATE
@@ -137,42 +137,29 @@ module _ (id : ℕ) (i : id < 2 ^ 96) (s : State) (holds : s.held ≡ Some held)
   abbrev pub success-text : List ℕ
   success-text = with_integrity Sha1 key base
 
-  success-is : allocated_text s id ≡ success-text
+  pub success-is : allocated_text s id ≡ success-text
   success-is = rw (holds, base-type) refl
 
-  success-type : type_of success-text ≡ 0x0103
+  pub success-type : type_of success-text ≡ 0x0103
   success-type = (mac-added base base-written base-plain (omega (arith, base-len)) (omega (arith, base-len)) Sha1 key).type ∙ base-type
 
-  success-id : id_of success-text ≡ id
+  pub success-id : id_of success-text ≡ id
   success-id = (mac-added base base-written base-plain (omega (arith, base-len)) (omega (arith, base-len)) Sha1 key).id
       ∙ base-added.id ∙ address-added.id ∙ (header_of-IsMessage 0x0103 id (omega arith) i).has_id
 
-  success-lifetime : lifetime_in success-text ≡ Some 600
+  pub success-lifetime : lifetime_in success-text ≡ Some 600
   unfolding seen_after
   success-lifetime = rw ((mac-added base base-written base-plain (omega (arith, base-len)) (omega (arith, base-len)) Sha1 key).attributes, base-attributes) refl
 
-  success-relayed : relayed_in success-text ≡ relayed_v4 ∷ []
+  pub success-relayed : relayed_in success-text ≡ relayed_v4 ∷ []
   unfolding seen_after
   success-relayed = rw ((mac-added base base-written base-plain (omega (arith, base-len)) (omega (arith, base-len)) Sha1 key).attributes, base-attributes) refl
 
-  success-validated : IsValidated (validation_of (auth_of s) success-text)
+  pub success-validated : IsValidated (validation_of (auth_of s) success-text)
   success-validated = rw (ap class_of success-type, holds, holds-true success-text Sha1 key (signed-holds base base-written base-plain (omega (arith, base-len)) (omega (arith, base-len)) Sha1 key)) tt
 
-  success-message : is_message success-text ≡ true
+  pub success-message : is_message success-text ≡ true
   success-message = signed-message base base-written base-plain (omega (arith, base-len)) (omega (arith, base-len)) Sha1 key
-
--- ---- the second ID
-
--- of three candidates one after the other, the first that is not taken, where one is at most
-small : (taken : ℕ → Bool) (id n : ℕ) → ((c : ℕ) → taken c ≡ true → id ≡ c)
-    → unwrap_or (find (λ c. not (taken c)) ((n + 0) % 2 ^ 96 ∷ (n + 1) % 2 ^ 96 ∷ (n + 2) % 2 ^ 96 ∷ [])) n < 2 ^ 96
-small taken id n only = elim (cases_Bool (taken ((n + 0) % 2 ^ 96))) [
-  | inl first ↦ elim (cases_Bool (taken ((n + 1) % 2 ^ 96))) [
-    | inl second ↦ let a = only ((n + 0) % 2 ^ 96) first in let b = only ((n + 1) % 2 ^ 96) second in absurd (omega (arith, a, b))
-    | inr free ↦ rw (first, free) (omega arith)
-  ]
-  | inr free ↦ rw free (omega arith)
-]
 
 -- ---- the states
 
@@ -210,7 +197,7 @@ module _ (local remote : SocketAddr) (config : Config) (seed : List ℕ) where
       request_for (record (requested id text) { transactions = []; phase = Authenticating; challenges = 1; held = Some held }) ForAllocation (fresh_id (requested id text))
 
   second-small : (id : ℕ) (text : List ℕ) → fresh_id (requested id text) < 2 ^ 96
-  second-small id text = small (λ c. is_taken c (requested id text)) id (next_id (behind_id h0.ids)) by
+  second-small id text = small-id (λ c. is_taken c (requested id text)) id (next_id (behind_id h0.ids)) by
     where
       by : (c : ℕ) → is_taken c (requested id text) ≡ true → id ≡ c
       by c h = elim (cases_Bool (eqb id c)) [ inl e ↦ eqb-true id c e | inr e ↦ absurd (let no : false ≡ true = rw (← h) (rw e refl) in cc) ]
@@ -363,6 +350,9 @@ module _ (local remote : SocketAddr) (config : Config) (seed : List ℕ) where
   pub packet-is : allocation_packet h3 ≡ from_server h3 bytes
   packet-is = ap (from_server h3) (success-is id2 second h3 refl)
 
+  few : (x : State) → x.queue ≡ [] → queue_ahead x ≤ 1
+  few x e = let least = ahead-queued x in let none : length x.queue ≡ 0 = rw e refl in omega (arith, least, none)
+
   -- what is said of the last state
   abbrev Ends : State → Transmit (List ℕ) → Type 0
   Ends x packet =
@@ -380,7 +370,7 @@ module _ (local remote : SocketAddr) (config : Config) (seed : List ℕ) where
     },
     refl,
     success-lifetime id2 second h3 refl,
-    (rw next-grants (omega arith), rw next-queue (omega arith)),
+    (rw next-grants (omega arith), few (state_after (Recv (from_server h3 bytes) 200_000_000) h3) next-queue),
   )
 
   ends-last : Ends last (allocation_packet last)
@@ -414,6 +404,6 @@ handshake-is-worked local remote config seed =
       allocates = allocates;
       granted = granted;
       steady = run-steadily local remote (h0 local remote config seed).config seed 100_000_000 0 200_000_000
-          (handshake_calls (h0 local remote config seed)) (allocation_packet (last local remote config seed)) 3 1 0 600 (omega arith) refl (omega arith)
+          (handshake_calls (h0 local remote config seed)) (allocation_packet (last local remote config seed)) 3 1 0 600 (omega arith) (omega arith)
           (runs local remote config seed) in_time allocates empty said (omega arith) (omega arith) within;
     }

@@ -1,17 +1,18 @@
 -- A request is retransmitted, or made again after a challenge, while no grant is lost.
-use Rattle.turn_client_laws.proofs.Common.{◌≡◌, ◌⊎◌, ℕ, ◌+◌, ◌-◌, ◌*◌, ◌^◌, ◌<◌, ◌≤◌, min, Bool, true, false, cond, not, ◌||◌, eqb, List, [], ◌∷◌, length, map, Some, refl, inl, inr, ap, sym, subst}
+use Rattle.turn_client_laws.proofs.Common.{◌≡◌, ◌⊎◌, ℕ, ◌+◌, ◌-◌, ◌*◌, ◌^◌, ◌<◌, ◌≤◌, min, Bool, true, false, cond, not, ◌||◌, eqb, List, [], ◌∷◌, map, Some, refl, inl, inr, ap, sym, subst}
 use Rattle.turn_client_laws.proofs.Common.{◌∙◌, arith, filter, list_any, and_parts, cases_Bool, cases_lt, eq-eqb, eqb-true, leb-true, not_from_false, or_left, length-append, list_any-append}
 use Rattle.turn_client_laws.proofs.Machine.{due, first_sent, is_due, resent, sent_again, without_transaction, Timers, wait_at, Transaction, Challenge, timers_of, pause_end, has_request, is_for}
 use Rattle.turn_client_laws.proofs.Machine.{purposes_of, fresh_id, listings, request_for, to_server, phase_after, state_after_retry, with_held, transaction_ended, waits_from, State, agent_of, Phase, Allocated}
 use Rattle.turn_client_laws.proofs.Machine.{Queued, Grant, Listing, Purpose, Has, filter-has, has-append, has-filter, has-found, has-left, has-right, map-has}
 use Rattle.turn_client_laws.proofs.Laws.{has-mapped, any-has, has-any, purpose-with}
 use Rattle.turn_client_runs.specs.History.{History, IsSeldom, extra_since, waited}
-use Rattle.turn_client_runs.specs.Lasting.{expiry_of}
+use Rattle.turn_client_runs.specs.Lasting.{expiry_of, queue_ahead}
 use Rattle.turn_client_runs.proofs.AppendLemmas.{has-last}
 use Rattle.turn_client_runs.proofs.LastingCounts.{passes-all}
 use Rattle.turn_client_runs.proofs.LastingHistory.{from-later, GoesOn, known-later, lone-more, waited-next}
 use Rattle.turn_client_runs.proofs.LastingListings.{requests-more}
-use Rattle.turn_client_runs.proofs.LastingStands.{Goes, IsAsked, IsAwaited, IsIdle, IsKept, IsRequest, IsRequested, Stands, due_of, early-paced, extra-paced, listed_as, asked-before, is_served}
+use Rattle.turn_client_runs.proofs.LastingStands.{ahead-more, Goes, IsAsked, IsAwaited, IsIdle, IsKept, IsRequest, IsRequested, Stands, due_of, early-paced, extra-paced, listed_as, asked-before}
+use Rattle.turn_client_runs.proofs.LastingStands.{is_served}
 use Rattle.turn_client_runs.proofs.LastingStands.{is_waiting, served, more-paced, pause-paced, used, Lag, taken}
 
 -- one packet more is extra
@@ -88,30 +89,30 @@ module _ (count slots extras : ℕ) (lag : Lag) (delay now : ℕ) (past later : 
           let same : served s (due_of s g) ≡ served t (due_of s g) = refl in
           omega (arith, one, same)
 
-      paused : pause_end t + lag.pace * length s.queue ≤ due_of s g + lag.pace * (1 + slots + used later t (due_of s g))
+      paused : pause_end t + lag.pace * queue_ahead s ≤ due_of s g + lag.pace * (1 + slots + used later t (due_of s g))
       paused = elim (cases_lt now (due_of s g)) [
         | inl early ↦
             let few = k.few in
             let paced = k.paced in
             let pause : pause_end t ≤ now + s.config.request_cadence = omega arith in
-            early-paced lag.pace lag.pace (pause_end t) (length s.queue) (length s.queue) now (due_of s g) slots (used later t (due_of s g))
+            early-paced lag.pace lag.pace (pause_end t) (queue_ahead s) (queue_ahead s) now (due_of s g) slots (used later t (due_of s g))
             refl refl few (omega (arith, pause, paced)) (omega (arith, early))
         | inr late ↦
-            let whole = extra-paced lag.pace lag.since (length s.queue) (due_of s g) slots (used past s (due_of s g)) (used later t (due_of s g)) (used-more late) idle.soon in
+            let whole = extra-paced lag.pace lag.since (queue_ahead s) (due_of s g) slots (used past s (due_of s g)) (used later t (due_of s g)) (used-more late) idle.soon in
             let pause : pause_end t ≤ now + s.config.request_cadence = omega arith in
             let paced = k.paced in
             let behind = k.behind in
             omega (arith, whole, pause, paced, behind)
       ]
 
-      soon : now + lag.pace * length s.queue ≤ due_of s g + lag.pace * (1 + slots + used later t (due_of s g))
+      soon : now + lag.pace * queue_ahead s ≤ due_of s g + lag.pace * (1 + slots + used later t (due_of s g))
       soon = elim (cases_lt now (due_of s g)) [
         | inl early ↦
             let few = k.few in
-            early-paced lag.pace lag.pace now (length s.queue) (length s.queue) now (due_of s g) slots (used later t (due_of s g))
+            early-paced lag.pace lag.pace now (queue_ahead s) (queue_ahead s) now (due_of s g) slots (used later t (due_of s g))
             refl refl few (omega arith) (omega (arith, early))
         | inr late ↦
-            let whole = extra-paced lag.pace lag.since (length s.queue) (due_of s g) slots (used past s (due_of s g)) (used later t (due_of s g)) (used-more late) idle.soon in
+            let whole = extra-paced lag.pace lag.since (queue_ahead s) (due_of s g) slots (used past s (due_of s g)) (used later t (due_of s g)) (used-more late) idle.soon in
             let paced = k.paced in
             let behind = k.behind in
             omega (arith, whole, paced, behind)
@@ -196,12 +197,15 @@ abbrev retry_text : State → ℕ → Purpose → Challenge → List ℕ
 retry_text s id purpose challenge =
     request_for (with_held challenge (record (transaction_ended id s) { phase = phase_after s.phase; challenges = s.challenges + 1 })) purpose (fresh_id s)
 
-pub retried-queue : (s : State) (id : ℕ) (purpose : Purpose) (challenge : Challenge) (now : ℕ) → length (state_after_retry s id purpose challenge now).queue ≡ length s.queue + 1
-retried-queue s id purpose challenge now = length-append s.queue (record { packet = to_server s s.local (retry_text s id purpose challenge); is_request = true } ∷ [])
+-- at most one packet more leaves before a refresh
+retried-queue : (s : State) (id : ℕ) (purpose : Purpose) (challenge : Challenge) (now : ℕ) → queue_ahead (state_after_retry s id purpose challenge now) ≤ queue_ahead s + 1
+retried-queue s id purpose challenge now =
+    ahead-more s (state_after_retry s id purpose challenge now) 1 refl
+    (omega (arith, length-append s.queue (record { packet = to_server s s.local (retry_text s id purpose challenge); is_request = true } ∷ [])))
 
 module _ (count slots extras : ℕ) (lag : Lag) (delay now : ℕ) (past later : History) (s : State) (k : IsKept count slots extras lag delay now past s.transactions s) (on : GoesOn s.transactions past later)
     (more : IsOneMore now past later) (seldom : IsSeldom extras s.config.refresh_ahead now later) (row : s.challenges + 1 ≤ later.challenged) (id : ℕ) (purpose : Purpose) (challenge : Challenge)
-    (fits : length s.queue + 1 ≤ slots) (early_made : later.made (fresh_id s) ≤ now) (answered_by : now ≤ later.made (fresh_id s) + delay)
+    (fits : queue_ahead (state_after_retry s id purpose challenge now) ≤ slots) (early_made : later.made (fresh_id s) ≤ now) (answered_by : now ≤ later.made (fresh_id s) + delay)
     (as_old : (x : Transaction) → Has x s.transactions → x.id ≡ id → later.made (fresh_id s) ≡ past.made x.id) where
   abbrev after : State
   after = state_after_retry s id purpose challenge now
@@ -292,7 +296,7 @@ module _ (count slots extras : ℕ) (lag : Lag) (delay now : ℕ) (past later : 
           or-true true = refl
           or-true false = refl
 
-  one-more : length after.queue ≡ length s.queue + 1
+  one-more : queue_ahead after ≤ queue_ahead s + 1
   one-more = retried-queue s id purpose challenge now
 
   idle-retried : (g : Grant) → IsIdle slots lag now past s g → IsIdle slots lag now later after g
@@ -301,20 +305,20 @@ module _ (count slots extras : ℕ) (lag : Lag) (delay now : ℕ) (past later : 
       used-more : due_of s g ≤ now → used past s (due_of s g) + 1 ≤ used later after (due_of s g)
       used-more early = let one = more (due_of s g) early in let same = serves-same (due_of s g) in omega (arith, one, same)
 
-      by : (x : ℕ) → x ≤ now + lag.pace → x + lag.pace * length s.queue ≤ due_of s g + lag.pace * (1 + slots + used past s (due_of s g))
-          → x + lag.pace * length after.queue ≤ due_of s g + lag.pace * (1 + slots + used later after (due_of s g))
+      by : (x : ℕ) → x ≤ now + lag.pace → x + lag.pace * queue_ahead s ≤ due_of s g + lag.pace * (1 + slots + used past s (due_of s g))
+          → x + lag.pace * queue_ahead after ≤ due_of s g + lag.pace * (1 + slots + used later after (due_of s g))
       by x pause was = elim (cases_lt now (due_of s g)) [
         | inl early ↦
-            early-paced lag.pace lag.pace x (length after.queue) (length after.queue) now (due_of s g) slots (used later after (due_of s g))
-            refl refl (omega (arith, one-more, fits)) pause (omega (arith, early))
-        | inr late ↦ more-paced lag.pace x (length s.queue) (length after.queue)
+            early-paced lag.pace lag.pace x (queue_ahead after) (queue_ahead after) now (due_of s g) slots (used later after (due_of s g))
+            refl refl fits pause (omega (arith, early))
+        | inr late ↦ more-paced lag.pace x (queue_ahead s) (queue_ahead after)
             (due_of s g) slots (used past s (due_of s g)) (used later after (due_of s g)) one-more (used-more late) was
       ]
 
-      soon : lag.since + lag.pace * length after.queue ≤ due_of s g + lag.pace * (1 + slots + used later after (due_of s g))
+      soon : lag.since + lag.pace * queue_ahead after ≤ due_of s g + lag.pace * (1 + slots + used later after (due_of s g))
       soon = let begins = k.begins in by lag.since (omega (arith, begins)) idle.soon
 
-      paused : pause_end s + lag.pace * length after.queue ≤ due_of s g + lag.pace * (1 + slots + used later after (due_of s g))
+      paused : pause_end s + lag.pace * queue_ahead after ≤ due_of s g + lag.pace * (1 + slots + used later after (due_of s g))
       paused = by (pause_end s) (pause-paced count slots extras lag delay now past s.transactions s k) idle.paused
 
   stands-retried : (g : Grant) → Stands count slots extras lag delay now past s.transactions s g → Stands count slots extras lag delay now later after.transactions after g
@@ -345,7 +349,7 @@ module _ (count slots extras : ℕ) (lag : Lag) (delay now : ℕ) (past later : 
   kept-retried = record {
     phase = phase-same;
     requests = list_any-append (λ (q : Queued). not q.is_request) s.queue (record { packet = to_server s s.local text; is_request = true } ∷ []) ∙ rw k.requests refl;
-    few = omega (arith, one-more, fits);
+    few = fits;
     prompt = k.prompt;
     paced = k.paced;
     begins = k.begins;

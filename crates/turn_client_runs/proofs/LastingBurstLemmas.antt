@@ -6,7 +6,7 @@ use Rattle.turn_client_laws.proofs.Machine.{Permission, Has, all-has, has-all, h
 use Rattle.turn_client_laws.proofs.Laws.{is_double, relayed_v4, contains-has, has-mapped}
 use Rattle.turn_client_runs.specs.History.{no_history, was_let_go}
 use Rattle.turn_client_runs.specs.Lasting.{HasRoom, IsInForce, IsSteady, ahead_of, expiry_of}
-use Rattle.turn_client_runs.specs.LastingBursts.{AreDistinct, BurstsCostNothing, QueuedAreNotExtra, permitted, with_permissions}
+use Rattle.turn_client_runs.specs.LastingBursts.{AreDistinct, BurstsCostNothing, QueuedAreNotExtra, QueuesNeedNoRoom, QueuesNeedRoom, permitted, with_permissions}
 use Rattle.turn_client_runs.proofs.LastingParts.{grants-last}
 
 pub queued-not-extra : QueuedAreNotExtra
@@ -17,6 +17,12 @@ queued-not-extra made now s x timed range e unsent =
     leb-true (transaction_timeout (timers_of s.config) s.transport x) now
     (and_parts (ltb x.resends (resends_of (timers_of s.config) s.transport)) (leb (transaction_timeout (timers_of s.config) s.transport x) now) is).1 in
     omega (arith, last, range, over)
+
+pub queues-need-no-room : QueuesNeedNoRoom
+queues-need-no-room count s timed few = (few, rw timed (omega arith))
+
+pub queues-need-room : QueuesNeedRoom
+queues-need-room count slots s untimed within = rw untimed at within.1
 
 -- ---- what the client has
 
@@ -60,7 +66,7 @@ module _ (ips : List IpAddr) (s : State) (ten : length ips ≡ 10) (over_v4 : Al
   of-family : (ip : IpAddr) → Has ip ips → family_of_ip ip ≡ IPV4
   of-family ip there = has-all (λ x. family_of_ip x ≡ IPV4) ip ips over_v4 there
 
-  begins : IsSteady 3011 3000 1000 20_000_000_000 0 t
+  begins : IsSteady 3011 0 1000 35_000_000_000 0 t
   unfolding IsDistinct
   begins = record {
     allocated = refl;
@@ -70,7 +76,7 @@ module _ (ips : List IpAddr) (s : State) (ten : length ips ≡ 10) (over_v4 : Al
     sent_before = omega arith;
     in_force = all-of (IsInForce 0) ips (refl, omega arith) (λ ip there. (refl, omega arith));
     none_late = all-of (λ g. 0 + ahead_of 60_000_000_000 g ≤ expiry_of g) ips (omega arith) (λ ip there. omega arith);
-    room = all-of (λ g. HasRoom 3011 3000 1000 5_000_000 20_000_000_000 (ahead_of 60_000_000_000 g)) ips (omega arith) (λ ip there. omega arith);
+    room = all-of (λ g. HasRoom 3011 0 1000 5_000_000 35_000_000_000 (ahead_of 60_000_000_000 g)) ips (omega arith) (λ ip there. omega arith);
     room_for_more = omega arith;
     within = (let e = length-permitted ips in omega (arith, e, ten), omega arith);
     distinct = (allocation-single ips, all-single ips own);
@@ -92,6 +98,6 @@ pub bursts-cost-nothing : BurstsCostNothing
 bursts-cost-nothing ips s ten over_v4 own = record {
   begins = begins ips s ten over_v4 own;
   lasts = λ calls run g there kept.
-      grants-last 3011 3000 1000 20_000_000_000 0 (with_permissions ips s) [] calls (begins ips s ten over_v4 own) run g there
+      grants-last 3011 0 1000 35_000_000_000 0 (with_permissions ips s) [] calls (begins ips s ten over_v4 own) run g there
       (in-force ips s ten over_v4 own g (contains-has g (with_permissions ips s).grants there)) (inl (none-let_go (with_permissions ips s) g)) kept;
 }

@@ -13,12 +13,12 @@ use Rattle.turn_client_laws.proofs.Laws.{any-has, Room, has-any, allocation-room
 use Rattle.turn_client_api.specs.declared.error.BindChannelError.TheVariants as Bind
 use Rattle.turn_client_api.specs.declared.error.CreatePermissionError.TheVariants as Create
 use Rattle.turn_client_runs.specs.History.{History}
-use Rattle.turn_client_runs.specs.Lasting.{expiry_of}
+use Rattle.turn_client_runs.specs.Lasting.{expiry_of, queue_ahead}
 use Rattle.turn_client_runs.proofs.AppendLemmas.{has-last}
 use Rattle.turn_client_runs.proofs.LastingHistory.{from-later, lone-more}
 use Rattle.turn_client_runs.proofs.LastingCounts.{passes, passes-all, passes-append, passes-none}
 use Rattle.turn_client_runs.proofs.LastingStands.{Goes, IsPending, IsRequested, requested-more, AreSingle, IsAsked, IsRequest, IsAwaited, IsIdle, IsKept, IsUnique, Stands, allocation-stands, due_of}
-use Rattle.turn_client_runs.proofs.LastingStands.{more-paced, asked-before, leased-active, IsLoose, is_served, is_waiting, not-waiting, served, stands-early, unique-refreshing}
+use Rattle.turn_client_runs.proofs.LastingStands.{ahead-more, more-paced, asked-before, leased-active, IsLoose, is_served, is_waiting, not-waiting, served, stands-early, unique-refreshing}
 use Rattle.turn_client_runs.proofs.LastingStands.{Lag}
 use Rattle.turn_client_runs.proofs.LastingTransmits.{same_ip-self}
 use Rattle.turn_client_runs.proofs.LastingListings.{requests-more}
@@ -97,8 +97,8 @@ module _ (count slots extras : ℕ) (lag : Lag) (delay now : ℕ) (past : Histor
       new-served [] some waits = absurd (omega (arith, some))
       new-served (g ∷ gs) some waits = rw (waits g (inl refl)) (omega arith)
 
-  one-more : length t.queue ≡ length s.queue + 1
-  one-more = length-append s.queue (packet ∷ [])
+  one-more : queue_ahead t ≤ queue_ahead s + 1
+  one-more = ahead-more s t 1 refl (omega (arith, length-append s.queue (packet ∷ [])))
 
   requested-old : (when : ℕ → Type 0) (g : Grant) → IsRequested when past s.transactions s.listed g → IsRequested when past t.transactions t.listed g
   requested-old when g = requested-more when past past s.transactions t.transactions s.listed t.listed g (λ x h. refl) (λ x h. has-left x s.transactions _ h) (λ l h for. has-left l s.listed _ h)
@@ -140,7 +140,7 @@ module _ (count slots extras : ℕ) (lag : Lag) (delay now : ℕ) (past : Histor
         made = omega (arith, fresh);
       }
 
-  pub asked-kept : length t.grants ≤ count → length t.queue ≤ slots → IsKept count slots extras lag delay now past t.transactions t
+  pub asked-kept : length t.grants ≤ count → queue_ahead t ≤ slots → IsKept count slots extras lag delay now past t.transactions t
   asked-kept size few = record {
     phase = k.phase;
     requests = list_any-append (λ (q : Queued). not q.is_request) s.queue (packet ∷ []) ∙ rw k.requests refl;

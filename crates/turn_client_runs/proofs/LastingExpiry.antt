@@ -1,9 +1,9 @@
 -- No grant is lost when others expire that were let go.
-use Rattle.turn_client_laws.proofs.Common.{◌≡◌, ◌⊎◌, ℕ, ◌+◌, ◌<◌, ◌≤◌, true, false, List, length, refl, inl, inr, sym, subst, ◌∙◌, arith, nat_le, SocketAddr, cases_lt, lt-leb}
+use Rattle.turn_client_laws.proofs.Common.{◌≡◌, ◌⊎◌, ℕ, ◌+◌, ◌<◌, ◌≤◌, true, false, List, refl, inl, inr, sym, subst, ◌∙◌, arith, nat_le, SocketAddr, cases_lt, lt-leb}
 use Rattle.turn_client_laws.proofs.Machine.{pause_end, family_of_grant, has_request, State, TurnEvent, Grant, Allocation, Channel, Permission, Listing, Active, Pending, Reserved, Relay, Has}
 use Rattle.turn_client_laws.proofs.Laws.{Room, room-more, IsReserved}
 use Rattle.turn_client_runs.specs.History.{History, IsSeldom, extra_since, was_let_go}
-use Rattle.turn_client_runs.specs.Lasting.{expiry_of}
+use Rattle.turn_client_runs.specs.Lasting.{expiry_of, queue_ahead}
 use Rattle.turn_client_runs.proofs.LastingCounts.{passes}
 use Rattle.turn_client_runs.proofs.LastingHistory.{GoesOn, known-later}
 use Rattle.turn_client_runs.proofs.LastingLeft.{IsGone, IsTidy, ExpiresInto, asked_in, is_lost, unasked-less}
@@ -85,7 +85,7 @@ module _ (count slots extras : ℕ) (lag : Lag) (delay now : ℕ) (past later : 
         | inl late ↦
             let few = bound-le count slots extras lag delay now past s.transactions s g k there was.granted idle in
             let pace = k.pace in
-            let soon = soon-by lag.since lag.pace (length s.queue) (bound slots lag past s g) idle.soon in
+            let soon = soon-by lag.since lag.pace (queue_ahead s) (bound slots lag past s g) idle.soon in
             let behind = k.behind in
             let more = still-used (due_of s g) (omega (arith, late)) (omega (arith, soon, behind, few, pace)) in
             inr (record {

@@ -7,12 +7,14 @@ use Rattle.turn_client_laws.proofs.Laws.{room-of, is_double, contains-has, has-c
 use Rattle.turn_client_runs.specs.LastingRuns.{LastsThrough}
 use Rattle.turn_client_runs.specs.Late.{HasRoomBehind, IsLate, IsReady, IsReservedChannel, IsSteadyBehind, OnTimeIsLateByNone, RunsBehind, since_next}
 use Rattle.turn_client_runs.specs.Lasting.{with_expiry, IsRequested, RequestsSucceed, as_granted, GrantsLast, HasRoom, HasStill, IsInForce, IsSteady, IsFresh, RunsSteadily, ahead_of, expiry_of}
+use Rattle.turn_client_runs.specs.Lasting.{queue_ahead}
 use Rattle.turn_client_runs.specs.OnTime.{IsOnTime, time_of, time_of_all}
 use Rattle.turn_client_laws.proofs.Laws.{IsReserved}
 use Rattle.turn_client_laws.proofs.Machine.{Reserved}
 use Rattle.turn_client_laws.proofs.Common.{All}
 use Rattle.turn_client_runs.specs.History.{History, IsKeptBy, no_history, was_let_go, with_call}
-use Rattle.turn_client_runs.proofs.LastingStands.{due_of, early-paced, granted-active, leased-active, let_go-became, IsActive, Follows, IsWell, is_waiting, AreSingle, IsGranted, IsKept, IsUnique}
+use Rattle.turn_client_runs.proofs.LastingStands.{ahead-queued, due_of, early-paced, granted-active, leased-active, let_go-became, IsActive, Follows, IsWell, is_waiting, AreSingle, IsGranted, IsKept}
+use Rattle.turn_client_runs.proofs.LastingStands.{IsUnique}
 use Rattle.turn_client_runs.proofs.LastingStands.{Lag, Stands, not-waiting, pause-le, pause-paced, stands-early, taken}
 use Rattle.turn_client_runs.proofs.LastingCounts.{passes}
 use Rattle.turn_client_runs.proofs.LastingTransmits.{reserved-inactive}
@@ -123,8 +125,8 @@ steady-kept count slots extras late delay now s is = record {
     unasked : (g : Grant) (ls : List Listing) → ls ≡ [] → list_any (λ (l : Listing). is_for l.purpose g) ls ≡ false
     unasked g ls e = rw e refl
 
-    none : length s.queue ≡ 0
-    none = rw is.none_queued refl
+    none : queue_ahead s ≡ 0
+    none = let few = ahead-queued s in let e : length s.queue ≡ 0 = rw is.none_queued refl in omega (arith, few, e)
 
     stands : (g : Grant) → IsReady count slots extras late delay now s g → Stands count slots extras (first_lag late now s) delay now (no_history s) s.transactions s g
     stands g ready =

@@ -6,10 +6,11 @@ use Rattle.turn_client_laws.proofs.Machine.{fresh_id, state_after, Call, PollRec
 use Rattle.turn_client_laws.proofs.Laws.{Input, InputsLead, any-has, calls-do, handled, has-any, processed}
 use Rattle.turn_client_runs.specs.History.{History, IsSeldom, extra_since, was_let_go, with_call}
 use Rattle.turn_client_runs.specs.InPieces.{AreCalm, IsAsking, PacketsAreEnough, RunsInPieces, asks_again, ends_request, with_all, with_input, with_inputs}
+use Rattle.turn_client_runs.specs.Lasting.{queue_ahead}
 use Rattle.turn_client_runs.specs.Late.{AreAnswered, IsMild, since_next}
 use Rattle.turn_client_runs.specs.OnTime.{time_of}
 use Rattle.turn_client_runs.proofs.ComingLemmas.{inputs-come}
-use Rattle.turn_client_runs.proofs.LastingAgain.{IsOneMore, goes-retried, kept-retried, retried-queue}
+use Rattle.turn_client_runs.proofs.LastingAgain.{IsOneMore, goes-retried, kept-retried}
 use Rattle.turn_client_runs.proofs.LastingHistory.{GoesOn, call-lets_go, goes-later, goes-row, kept-later, old-apart}
 use Rattle.turn_client_runs.proofs.LastingRuns.{KeepsAll, Leads, SameRow, call-kept, challenge-judged, leads-differs, leads-end, leads-mild, retry_step}
 use Rattle.turn_client_runs.proofs.LastingSpared.{quiet-alike, call-alike, row-alike}
@@ -98,7 +99,7 @@ module _ (count slots extras : ℕ) (lag : Lag) (delay now : ℕ) (past : Histor
 
   -- ---- a challenge
 
-  module _ (is : IsAsking one past) (within : length last.queue ≤ slots) where
+  module _ (is : IsAsking one past) (within : queue_ahead last ≤ slots) where
     made-fresh : later.made (fresh_id first) ≡ cond (is_outstanding id first.transactions) (past.made id) now
     made-fresh =
         let e = eq-eqb (fresh_id first) (fresh_id first) refl in
@@ -142,11 +143,8 @@ module _ (count slots extras : ℕ) (lag : Lag) (delay now : ℕ) (past : Histor
             let old = k.row in
             omega (arith, one_more, old)
 
-        fits : length first.queue + 1 ≤ slots
-        fits =
-            let few : length (state_after_retry first id purpose challenge now).queue ≤ slots = subst (λ (u : State). length u.queue ≤ slots) e within in
-            let len = retried-queue first id purpose challenge now in
-            omega (arith, few, len)
+        fits : queue_ahead (state_after_retry first id purpose challenge now) ≤ slots
+        fits = subst (λ (u : State). queue_ahead u ≤ slots) e within
 
         there-of : is_outstanding id first.transactions ≡ true → (x : Transaction) × Has x first.transactions × (x.id ≡ id)
         there-of e = let (x, there, same) = any-has (λ (x : Transaction). eqb x.id id) first.transactions e in (x, there, eqb-true x.id id same)

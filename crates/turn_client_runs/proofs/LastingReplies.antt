@@ -1,13 +1,13 @@
 -- What a success changes while no grant is lost.
-use Rattle.turn_client_laws.proofs.Common.{◌≡◌, ◌⊎◌, ℕ, ◌+◌, ◌*◌, ◌<◌, ◌≤◌, Bool, true, false, cond, not, ◌&&◌, ◌||◌, List, [], ◌∷◌, length, map, fold, refl, inl, inr, ap, sym, subst, ◌∙◌, arith}
+use Rattle.turn_client_laws.proofs.Common.{◌≡◌, ◌⊎◌, ℕ, ◌+◌, ◌*◌, ◌<◌, ◌≤◌, Bool, true, false, cond, not, ◌&&◌, ◌||◌, List, [], ◌∷◌, map, fold, refl, inl, inr, ap, sym, subst, ◌∙◌, arith}
 use Rattle.turn_client_laws.proofs.Common.{filter, length-append, length-map, list_any, and_from, and_parts, cases_Bool, cases_lt, eqb-true, le-leb, not-true, not_from_false, or_left, or_right}
 use Rattle.turn_client_laws.proofs.Common.{eq-eqb}
 use Rattle.turn_client_laws.proofs.Machine.{AddressFamily, Transaction, State, Grant, Allocation, Permission, Channel, Active, Pending, Listing, Purpose, ForRefresh, ForPermission, ForChannel}
-use Rattle.turn_client_laws.proofs.Machine.{family_of, family_of_grant, has_request, is_for, purposes_of, is_kept, pause_end, Queued, effect, same_ip-true, Has, filter-has, has-filter, has-left}
+use Rattle.turn_client_laws.proofs.Machine.{family_of, family_of_grant, has_request, is_for, purposes_of, is_kept, pause_end, effect, same_ip-true, Has, filter-has, has-filter, has-left}
 use Rattle.turn_client_laws.proofs.Machine.{has-right, map-has, channel_bind_method, method_for, method_in, is_answered}
 use Rattle.turn_client_laws.proofs.Laws.{IsReserved, has-mapped, Room, any-has, has-any, room-more, same_family-true}
 use Rattle.turn_client_runs.specs.History.{History, was_let_go}
-use Rattle.turn_client_runs.specs.Lasting.{as_granted, Answers, Grants, ahead_of, expiry_of, with_expiry}
+use Rattle.turn_client_runs.specs.Lasting.{as_granted, Answers, Grants, ahead_of, expiry_of, queue_ahead, with_expiry}
 use Rattle.turn_client_runs.proofs.AppendLemmas.{has-last}
 use Rattle.turn_client_runs.proofs.LastingCounts.{or_else, or_first, length-without, passes, passes-all, passes-append, passes-filter, passes-map, passes-mapped, passes-none, passes-split}
 use Rattle.turn_client_runs.proofs.LastingCounts.{passes-same, passes-two}
@@ -182,8 +182,8 @@ module _ (count slots extras : ℕ) (lag : Lag) (delay now : ℕ) (past : Histor
       → (g : Grant) → is_for p g ≡ false → Stands count slots extras lag delay now past transactions u g → Stands count slots extras lag delay now past transactions t g
   stands-other t same ls qs sends serves g other was = record { granted = was.granted; room = rw same was.room; long = rw same was.long; either = by was.either }
     where
-      len : length t.queue ≡ length u.queue
-      len = ap (λ (q : List Queued). length q) qs
+      len : queue_ahead t ≡ queue_ahead u
+      len = rw (same, qs) refl
 
       pauses : pause_end t ≡ pause_end u
       pauses = pauses-same t same sends
@@ -236,7 +236,7 @@ module _ (count slots extras : ℕ) (lag : Lag) (delay now : ℕ) (past : Histor
       → (count + slots + extras) * lag.pace + delay + lag.late < ahead_of u.config.refresh_ahead h → now + 150_000_000_000 + ahead_of u.config.refresh_ahead h ≤ expiry_of h
       → has_request h t ≡ false → Stands count slots extras lag delay now past transactions t h
   stands-new t same qs sends h granted room late unasked =
-      let len : length t.queue ≡ length u.queue = ap (λ (q : List Queued). length q) qs in
+      let len : queue_ahead t ≡ queue_ahead u = rw (same, qs) refl in
       let pauses = pauses-same t same sends in
       let few = k.few in
       let begins = k.begins in

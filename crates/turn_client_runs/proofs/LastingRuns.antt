@@ -20,14 +20,14 @@ use Rattle.turn_client_runs.specs.Granted.{ComesIn}
 use Rattle.turn_client_runs.proofs.ComingLemmas.{inputs-come}
 use Rattle.turn_client_runs.proofs.LastingPolls.{filter_map-none}
 use Rattle.turn_client_runs.proofs.LastingNoise.{noise-changes-nothing}
-use Rattle.turn_client_runs.specs.Lasting.{IsAnsweredChallenge, Answers, DatagramsAreMessages, IsQuiet, IsSuccess, expiry_of, HoldsAtMost, SuccessesEndRequests}
+use Rattle.turn_client_runs.specs.Lasting.{IsAnsweredChallenge, Answers, DatagramsAreMessages, IsQuiet, IsSuccess, expiry_of, queue_ahead, HoldsAtMost, SuccessesEndRequests}
 use Rattle.turn_client_runs.proofs.MadeLemmas.{control-made, success-ends}
 use Rattle.turn_client_runs.specs.OnTime.{IsFromServer, time_of}
 use Rattle.turn_client_runs.specs.History.{History, is_replied, IsSeldom, extra_since, is_extra, lost, was_let_go, with_call}
 use Rattle.turn_client_runs.proofs.LastingStands.{allocation-stands, kept-changed, kept-rest, stands-aside, Goes, IsRequested, goes-more, goes-trans, IsKept, Lag, Stands, stands-early, taken}
 use Rattle.turn_client_runs.proofs.LastingCounts.{passes, passes-length}
 use Rattle.turn_client_runs.proofs.LastingCalls.{Asks, asked-goes, asked-kept, binds, creates}
-use Rattle.turn_client_runs.proofs.LastingAgain.{IsOneMore, goes-again, goes-retried, kept-again, kept-retried, retried-queue}
+use Rattle.turn_client_runs.proofs.LastingAgain.{IsOneMore, goes-again, goes-retried, kept-again, kept-retried}
 use Rattle.turn_client_runs.proofs.LastingHistory.{goes-row, same-row, GoesOn, extra-more, lost-more, call-extra, call-goes_on, call-made, goes-later, kept-later, none-over_yet}
 use Rattle.turn_client_runs.proofs.LastingTime.{time-kept}
 use Rattle.turn_client_runs.proofs.LastingPolls.{ArePlain, kept-aside, polls}
@@ -505,11 +505,8 @@ module _ (count slots extras : ℕ) (lag : Lag) (delay before : ℕ) (past : His
             let old = k.row in
             omega (arith, counted, old)
 
-        fits : length s.queue + 1 ≤ slots
-        fits =
-            let few = (subst (HoldsAtMost count slots) e within).1 in
-            let len = retried-queue s of_reply purpose challenge now in
-            omega (arith, few, len)
+        fits : queue_ahead (state_after_retry s of_reply purpose challenge now) ≤ slots
+        fits = (subst (HoldsAtMost count slots) e within).1
 
         by-age : (b : Bool) → is_outstanding of_reply s.transactions ≡ b → (behind.made (fresh_id s) ≤ now) × (now ≤ behind.made (fresh_id s) + delay)
         by-age false f =

@@ -5,7 +5,7 @@ use Rattle.turn_client_laws.proofs.Machine.{AddressFamily, due, timed_out_transa
 use Rattle.turn_client_laws.proofs.Machine.{Allocated, Grant, Allocation, Permission, Channel, Relay, Active, ForRefresh, ForPermission, ForChannel, allocations, family_of, family_of_grant}
 use Rattle.turn_client_laws.proofs.Machine.{find_allocation, has_request, is_of, asked_lifetime, is_paused, is_refreshable, pause_end, refresh_time, is_refresh_due, next_refresh, queue_step}
 use Rattle.turn_client_laws.proofs.Machine.{refresh_step, transmit_step, Has, find-none, has-found, allocation-there}
-use Rattle.turn_client_laws.proofs.Laws.{none-queued, Room, of-room, not_due-transmit, refreshed-once}
+use Rattle.turn_client_laws.proofs.Laws.{first_left, none-left, Room, of-room, not_due-transmit, refreshed-once}
 use Rattle.turn_client_runs.specs.Lasting.{expiry_of}
 use Rattle.turn_client_runs.proofs.LastingStands.{IsActive, IsGranted, due_of, kind-due}
 
@@ -31,10 +31,10 @@ module _ (delay time : ℕ) (s : State) (prompt : delay < wait_at (timers_of s.c
 
 -- ---- refreshes
 
-pub queue-idle : (time : ℕ) (s : State) → s.queue ≡ [] → s.phase ≡ Allocated → queue_step time s ≡ refresh_step time s
-queue-idle time s e p = rw (none-queued time s e, p) refl
+pub queue-idle : (time : ℕ) (s : State) → first_left s s.queue ≡ None → s.phase ≡ Allocated → queue_step time s ≡ refresh_step time s
+queue-idle time s e p = rw (none-left time s e, p) refl
 
-pub transmit-refreshes : (time : ℕ) (s : State) → s.phase ≡ Allocated → s.queue ≡ [] → due (agent_of s) time ≡ None → pause_end s ≤ time → transmit_step time s ≡ refresh_step time s
+pub transmit-refreshes : (time : ℕ) (s : State) → s.phase ≡ Allocated → first_left s s.queue ≡ None → due (agent_of s) time ≡ None → pause_end s ≤ time → transmit_step time s ≡ refresh_step time s
 transmit-refreshes time s p e none over =
     let idle : is_paused time s ≡ false = le-ltb time (pause_end s) over in
     not_due-transmit time s none ∙ rw idle (queue-idle time s e p)

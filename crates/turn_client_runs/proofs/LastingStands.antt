@@ -1,12 +1,13 @@
 -- How a client stands while no grant is lost: each grant is refreshed in time, or its refresh is on its way.
-use Rattle.turn_client_laws.proofs.Common.{◌≡◌, ◌⊎◌, ℕ, ◌+◌, ◌-◌, ◌*◌, ◌^◌, ◌<◌, ◌≤◌, min, Bool, true, false, ◌||◌, leb, eqb, List, [], ◌∷◌, length, filter, Option, Some, None, refl, ap, sym, subst}
+use Rattle.turn_client_laws.proofs.Common.{◌≡◌, ◌⊎◌, ℕ, ◌+◌, ◌-◌, ◌*◌, ◌^◌, ◌<◌, ◌≤◌, min, Bool, true, false, cond, ◌||◌, leb, eqb, List, [], ◌∷◌, length, filter, Option, Some, None, refl, ap, sym}
+use Rattle.turn_client_laws.proofs.Common.{subst}
 use Rattle.turn_client_laws.proofs.Common.{◌∙◌, inl, inr, arith, IfSome, ⊤, nat_le, lt-leb, SocketAddr}
 use Rattle.turn_client_laws.proofs.Machine.{Source, Transaction, timers_of, State, later_by, Allocated, Queued, TurnEvent, Grant, Allocation, Permission, Channel, Active, Pending, Reserved, Purpose}
 use Rattle.turn_client_laws.proofs.Machine.{ForRefresh, ForPermission, ForChannel, Listing, family_of_grant, has_request, is_for, Relay, has_reply, is_kept, pause_end, refresh_time_by_kind, Has}
 use Rattle.turn_client_laws.proofs.Laws.{Room, IsReserved}
 use Rattle.std.proofs.lemmas.Nat.{mul-le}
 use Rattle.turn_client_runs.specs.History.{History, IsSeldom, all_waits, extra_since, waited, was_let_go}
-use Rattle.turn_client_runs.specs.Lasting.{as_granted, with_expiry, ahead_of, expiry_of}
+use Rattle.turn_client_runs.specs.Lasting.{as_granted, with_expiry, ahead_of, expiry_of, queue_ahead}
 use Rattle.turn_client_runs.proofs.LastingCounts.{passes, passes-less}
 use Rattle.turn_client_runs.proofs.GrantInputs.{IsLeased}
 
@@ -77,12 +78,12 @@ IsAwaited delay past transactions listed g = IsRequested (λ made. made + delay 
 abbrev pub IsPending : ℕ → History → List Transaction → List Listing → Grant → Type 0
 IsPending until past transactions listed g = IsRequested (λ made. made ≤ until) past transactions listed g
 
--- it is not too late to request it, once all that is queued was sent
+-- it is not too late to request it, once all that leaves before it was sent
 pub record IsIdle (slots : ℕ) (lag : Lag) (now : ℕ) (past : History) (s : State) (g : Grant) : Type 0 where
   pub unasked : has_request g s ≡ false
   pub near : now ≤ due_of s g + s.config.refresh_ahead
-  pub soon : lag.since + lag.pace * length s.queue ≤ bound slots lag past s g
-  pub paused : pause_end s + lag.pace * length s.queue ≤ bound slots lag past s g
+  pub soon : lag.since + lag.pace * queue_ahead s ≤ bound slots lag past s g
+  pub paused : pause_end s + lag.pace * queue_ahead s ≤ bound slots lag past s g
 
 pub record Stands (count slots extras : ℕ) (lag : Lag) (delay now : ℕ) (past : History) (transactions : List Transaction) (s : State) (g : Grant) : Type 0 where
   pub granted : IsGranted g
@@ -255,7 +256,7 @@ request-more gs hs (l ∷ m ∷ n ∷ ls) more h = absurd h
 pub record IsKept (count slots extras : ℕ) (lag : Lag) (delay now : ℕ) (past : History) (transactions : List Transaction) (s : State) : Type 0 where
   pub phase : s.phase ≡ Allocated
   pub requests : has_reply s ≡ false
-  pub few : length s.queue ≤ slots
+  pub few : queue_ahead s ≤ slots
   pub prompt : delay < all_waits (timers_of s.config) s.transport
   pub paced : s.config.request_cadence + lag.late ≤ lag.pace
   pub begins : lag.since ≤ now
@@ -326,7 +327,7 @@ pub record IsLeft (count slots extras : ℕ) (lag : Lag) (since delay now : ℕ)
   pub begins : since ≤ now
   pub behind : now ≤ since + lag.late
   pub requests : has_reply t ≡ false
-  pub few : length t.queue ≤ slots
+  pub few : queue_ahead t ≤ slots
   pub sent : IfSome t.last_send (λ time. time ≤ now)
   pub awaited : (x : Transaction) → Has x t.transactions → Has x s.transactions
   pub stands : (g : Grant) → Has g s.grants → Stands count slots extras lag delay now past transactions s g → Stands count slots extras (taken since lag) delay now past transactions t g
@@ -423,10 +424,25 @@ still-paced c d x q r due later slots n m e f moved more h = rw (e, f, moved) (o
 pub early-paced : (c d x q r now due slots n : ℕ) → d ≡ c → q ≡ r → r ≤ slots → x ≤ now + c → now ≤ due → x + d * q ≤ due + d * (1 + slots + n)
 early-paced c d x q r now due slots n e f fits paused late = rw (e, f) (omega (arith, paused, late, mul-le c r c slots (omega arith) fits))
 
--- with one more served and nothing queued, one more pause is spared
--- one more is served, and one more is queued
-pub more-paced : (c x q r due slots n m : ℕ) → r ≡ q + 1 → n + 1 ≤ m → x + c * q ≤ due + c * (1 + slots + n) → x + c * r ≤ due + c * (1 + slots + m)
-more-paced c x q r due slots n m e more h = rw e (omega (arith, h, mul-le c (n + 1) c m (omega arith) more))
+-- no more are queued than there are packets
+pub ahead-queued : (s : State) → queue_ahead s ≤ length s.queue
+ahead-queued s = by s.config.timed_from_send
+  where
+    by : (timed : Bool) → cond timed 0 (length s.queue) ≤ length s.queue
+    by true = omega arith
+    by false = omega arith
+
+-- where at most one packet more is queued, at most one more leaves before a refresh
+pub ahead-more : (s t : State) (n : ℕ) → t.config ≡ s.config → length t.queue ≤ length s.queue + n → queue_ahead t ≤ queue_ahead s + n
+ahead-more s t n same few = rw same (by s.config.timed_from_send)
+  where
+    by : (timed : Bool) → cond timed 0 (length t.queue) ≤ cond timed 0 (length s.queue) + n
+    by true = omega arith
+    by false = few
+
+-- one more is served, and at most one more is queued
+pub more-paced : (c x q r due slots n m : ℕ) → r ≤ q + 1 → n + 1 ≤ m → x + c * q ≤ due + c * (1 + slots + n) → x + c * r ≤ due + c * (1 + slots + m)
+more-paced c x q r due slots n m at_most more h = omega (arith, h, mul-le c r c (q + 1) (omega arith) at_most, mul-le c (n + 1) c m (omega arith) more)
 
 -- one more is extra, and the pause begins anew
 pub extra-paced : (c now q due slots n m : ℕ) → n + 1 ≤ m → now + c * q ≤ due + c * (1 + slots + n) → now + c + c * q ≤ due + c * (1 + slots + m)
@@ -475,7 +491,7 @@ pub stands-early : (count slots extras : ℕ) (lag : Lag) (delay now : ℕ) (pas
     → now < expiry_of g
 stands-early count slots extras lag delay now past s k g there stands = elim stands.either [
   | inl a ↦ let late = k.heard a.transaction a.there in let t = a.made in omega (arith, late, t)
-  | inr idle ↦ omega (arith, k.behind, soon-by lag.since lag.pace (length s.queue) (bound slots lag past s g) idle.soon, bound-le count slots extras lag delay now past s.transactions s g k there stands.granted idle, stands.room, stands.long)
+  | inr idle ↦ omega (arith, k.behind, soon-by lag.since lag.pace (queue_ahead s) (bound slots lag past s g) idle.soon, bound-le count slots extras lag delay now past s.transactions s g k there stands.granted idle, stands.room, stands.long)
 ]
 
 -- no allocation is waiting, so each is granted

@@ -1,13 +1,14 @@
 -- Time passes while no grant is lost.
-use Rattle.turn_client_laws.proofs.Common.{◌≡◌, ℕ, ◌+◌, ◌*◌, ◌<◌, ◌≤◌, max, true, false, List, [], ◌∷◌, length, Option, Some, None, refl, inl, inr, sym, ◌∙◌, arith, IfSome, IsSome, max-le, cases_lt}
+use Rattle.turn_client_laws.proofs.Common.{◌≡◌, ℕ, ◌+◌, ◌*◌, ◌<◌, ◌≤◌, max, true, false, List, Option, Some, None, refl, inl, inr, sym, ◌∙◌, arith, IfSome, IsSome, max-le, cases_lt}
 use Rattle.turn_client_laws.proofs.Common.{none-some, le-ltb}
 use Rattle.turn_client_laws.proofs.Machine.{due, Transaction, State, agent_of, Grant, Allocation, Channel, Permission, Relay, allocations, as_allocation, family_of, family_of_grant, is_of, is_paused}
 use Rattle.turn_client_laws.proofs.Machine.{pause_end, to_server, Queued, next_refresh, next_transmit, queue_step, refresh_step, transmit_step, Has, filter_map-has, has-all}
-use Rattle.turn_client_laws.proofs.Laws.{front-sends, same_family-self, not_due-transmit, next-sends}
-use Rattle.turn_client_runs.specs.Lasting.{ahead_of, expiry_of}
+use Rattle.turn_client_laws.proofs.Laws.{first_left, front-sends, same_family-self, not_due-transmit, next-sends}
+use Rattle.std.proofs.lemmas.Nat.{mul-le}
+use Rattle.turn_client_runs.specs.Lasting.{ahead_of, expiry_of, queue_ahead}
 use Rattle.turn_client_runs.specs.Late.{AreAnswered}
 use Rattle.turn_client_runs.specs.History.{History}
-use Rattle.turn_client_runs.proofs.LastingStands.{granted-active, pending-later, IsIdle, IsKept, Stands, allocation-stands, bound, bound-le, soon-by, due_of, stands-early, Lag, taken}
+use Rattle.turn_client_runs.proofs.LastingStands.{granted-active, pending-later, IsIdle, IsKept, Stands, allocation-stands, bound, bound-le, soon-by, due_of, stands-early, used, Lag, taken}
 use Rattle.turn_client_runs.proofs.LastingSends.{due-sends, is-due, may-refresh, transmit-refreshes}
 
 -- what is refreshed by then is refreshed in time
@@ -19,6 +20,10 @@ bound-early count slots extras lag delay now past transactions s g k there stand
 
 max-lt : (a b n : ℕ) → a < n → b < n → max a b < n
 max-lt a b n f g = omega (arith, f, g)
+
+-- what is no later than one of three times is in time if each of them is
+sooner : (a b c time more end : ℕ) → time ≤ max a (max b c) → a + more ≤ end → b + more ≤ end → c + more ≤ end → time + more ≤ end
+sooner a b c time more end least first second third = omega (arith, least, first, second, third)
 
 -- a refresh is no longer ahead than was configured
 ahead-le : (ahead : ℕ) (g : Grant) → ahead_of ahead g ≤ ahead
@@ -42,8 +47,8 @@ module _ (count slots extras : ℕ) (lag : Lag) (delay before start now : ℕ) (
           let some : next_transmit (max time before) s ≡ Some (record (to_server s s.local x.request) { to = x.to }) = rw (e, next_transmit, transmit_step) refl in
           absurd (none-some (record (to_server s s.local x.request) { to = x.to }) (sym (in_time.caller.free time after early) ∙ some))
 
-  -- with nothing queued, no refresh could be sent before the lag began
-  sends-none : s.queue ≡ [] → (time : ℕ) → lag.since ≤ time → time < start → pause_end s ≤ max time before → IsSome (next_refresh (max time before) s) → ⊥
+  -- with nothing to send, no refresh could be sent before the lag began
+  sends-none : first_left s s.queue ≡ None → (time : ℕ) → lag.since ≤ time → time < start → pause_end s ≤ max time before → IsSome (next_refresh (max time before) s) → ⊥
   sends-none empty time after early over some =
       let is : transmit_step (max time before) s ≡ refresh_step (max time before) s = transmit-refreshes (max time before) s k.phase empty (none-was_due time after early) over in
       let e : (refresh_step (max time before) s).0 ≡ None = rw (sym is) (in_time.caller.free time after early) in
@@ -51,14 +56,14 @@ module _ (count slots extras : ℕ) (lag : Lag) (delay before start now : ℕ) (
       cc
 
   -- what is queued can be sent once the pause has ended
-  queue-late : (q : Queued) (qs : List Queued) → s.queue ≡ q ∷ qs → start ≤ max lag.since (pause_end s)
-  queue-late q qs e = elim (cases_lt (max lag.since (pause_end s)) start) [
+  queue-late : (q : Queued) → first_left s s.queue ≡ Some q → start ≤ max lag.since (pause_end s)
+  queue-late q e = elim (cases_lt (max lag.since (pause_end s)) start) [
     | inl early ↦
         let time = max lag.since (pause_end s) in
         let idle : is_paused (max time before) s ≡ false = le-ltb (max time before) (pause_end s) (omega arith) in
         let is : transmit_step (max time before) s ≡ queue_step (max time before) s = not_due-transmit (max time before) s (none-was_due time (omega arith) early) ∙ rw idle refl in
         let none : (queue_step (max time before) s).0 ≡ None = rw (sym is) (in_time.caller.free time (omega arith) early) in
-        let no : false ≡ true = rw none at (front-sends (max time before) s (q ∷ qs) e (omega arith)) in
+        let no : false ≡ true = rw none at (front-sends (max time before) s q e) in
         cc
     | inr late ↦ late
   ]
@@ -66,8 +71,8 @@ module _ (count slots extras : ℕ) (lag : Lag) (delay before start now : ℕ) (
   -- with the queue, by which it is decided
   idle-early : (g : Grant) → Has g s.grants → Stands count slots extras lag delay before past s.transactions s g
       → IsIdle slots lag before past s g → (a : Relay) → Has a (allocations s) → is_of (family_of a.relayed) g ≡ true
-      → ((time : ℕ) → time ≤ now → time < expiry_of g → time ≤ a.expiry) → start + lag.pace * length s.queue ≤ bound slots lag past s g
-  idle-early g there stands idle a inside of goes_on = by s.queue refl
+      → ((time : ℕ) → time ≤ now → time < expiry_of g → time ≤ a.expiry) → start + lag.pace * queue_ahead s ≤ bound slots lag past s g
+  idle-early g there stands idle a inside of goes_on = by (first_left s s.queue) refl
     where
       at_once : ℕ
       at_once = max lag.since (max (pause_end s) (due_of s g))
@@ -98,20 +103,27 @@ module _ (count slots extras : ℕ) (lag : Lag) (delay before start now : ℕ) (
           (is-due (max at_once before) s g (granted-active g stands.granted) (may-refresh s g all stands.granted (k.in_allocations g there)) idle.unasked (omega arith))
           lasts a inside of (goes_on (max at_once before) (no-later early) lasts)
 
-      by : (queue : List Queued) → s.queue ≡ queue → start + lag.pace * length s.queue ≤ bound slots lag past s g
-      by (q ∷ qs) e = let soon = idle.soon in let paused = idle.paused in omega (arith, queue-late q qs e, soon, paused)
-      by [] e = elim (cases_lt at_once start) [
+      -- those that have ended may be in the queue, too
+      few : due_of s g + lag.pace * queue_ahead s ≤ due_of s g + lag.pace * (1 + slots + used past s (due_of s g))
+      few =
+          let few = k.few in
+          let all = mul-le lag.pace (queue_ahead s) lag.pace (1 + slots + used past s (due_of s g)) (omega arith) (omega (arith, few)) in
+          omega (arith, all)
+
+      by : (o : Option Queued) → first_left s s.queue ≡ o → start + lag.pace * queue_ahead s ≤ bound slots lag past s g
+      by (Some q) e = let soon = idle.soon in let paused = idle.paused in omega (arith, queue-late q e, soon, paused)
+      by None e = elim (cases_lt at_once start) [
         | inl early ↦ absurd (sends-none e at_once (omega arith) early (omega arith) (sends early))
-        | inr late ↦ let none : length s.queue ≡ 0 = rw e refl in rw none (omega (arith, late, within))
+        | inr late ↦ sooner lag.since (pause_end s) (due_of s g) start (lag.pace * queue_ahead s) (bound slots lag past s g) late idle.soon idle.paused few
       ]
 
   -- a request for it leaves in time, or its reply comes in time
   early-by : (g : Grant) → Has g s.grants → Stands count slots extras lag delay before past s.transactions s g
-      → (IsIdle slots lag before past s g → start + lag.pace * length s.queue ≤ bound slots lag past s g)
+      → (IsIdle slots lag before past s g → start + lag.pace * queue_ahead s ≤ bound slots lag past s g)
       → now < expiry_of g
   early-by g there stands idles = elim stands.either [
     | inl awaited ↦ let late = all-answered awaited.transaction awaited.there in let t = awaited.made in omega (arith, late, t)
-    | inr idle ↦ omega (arith, in_time.caller.soon, soon-by start lag.pace (length s.queue) (bound slots lag past s g) (idles idle), bound-early count slots extras lag delay before past s.transactions s g k there stands idle)
+    | inr idle ↦ omega (arith, in_time.caller.soon, soon-by start lag.pace (queue_ahead s) (bound slots lag past s g) (idles idle), bound-early count slots extras lag delay before past s.transactions s g k there stands idle)
   ]
 
   there-of : (a : Relay) → Has (Allocation a) s.grants → Has a (allocations s)
@@ -124,7 +136,7 @@ module _ (count slots extras : ℕ) (lag : Lag) (delay before start now : ℕ) (
       (λ idle. idle-early (Allocation a) there stands idle a (there-of a there) (same_family-self (family_of a.relayed) (family_of a.relayed) refl) (λ time early less. omega (arith, less)))
 
   idles : (g : Grant) → Has g s.grants → Stands count slots extras lag delay before past s.transactions s g
-      → IsIdle slots lag before past s g → start + lag.pace * length s.queue ≤ bound slots lag past s g
+      → IsIdle slots lag before past s g → start + lag.pace * queue_ahead s ≤ bound slots lag past s g
   idles g there stands idle =
       let (a, here, same) = k.in_allocations g there in
       idle-early g there stands idle a (there-of a here) (same_family-self (family_of_grant g) (family_of a.relayed) (sym same)) (λ time early less. omega (arith, early, allocation-early a here))
@@ -167,7 +179,7 @@ module _ (count slots extras : ℕ) (lag : Lag) (delay before start now : ℕ) (
       idle-later : (g : Grant) → Has g s.grants → Stands count slots extras lag delay before past s.transactions s g → IsIdle slots lag before past s g → IsIdle slots (taken start lag) now past s g
       idle-later g there was idle =
           let soon = idles g there was idle in
-          let at_most = soon-by start lag.pace (length s.queue) (bound slots lag past s g) soon in
+          let at_most = soon-by start lag.pace (queue_ahead s) (bound slots lag past s g) soon in
           let behind = in_time.caller.soon in
           let early = bound-early count slots extras lag delay before past s.transactions s g k there was idle in
           let near = ahead-le s.config.refresh_ahead g in

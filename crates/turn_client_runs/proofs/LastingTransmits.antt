@@ -3,26 +3,29 @@ use Rattle.turn_client_laws.proofs.Common.{◌≡◌, ◌⊎◌, ℕ, ◌+◌, �
 use Rattle.turn_client_laws.proofs.Common.{subst, ◌∙◌, arith, filter, filter_map, is_some, flat_map, slice_get, nat_le, if◌then◌else◌, list_any, option_map_or, and_parts, cases_Bool, cases_lt, eq-eqb, leb-true, lt-leb}
 use Rattle.turn_client_laws.proofs.Common.{or_cases, or_left, or_right, list_any-append, none-some, same_Some, IpAddr}
 use Rattle.turn_client_laws.proofs.Machine.{Transmit, due, first_sent, State, agent_of, Queued, Grant, Allocation, Permission, Channel, Relay, Active, Pending, Reserved, Listing, Purpose, ForRefresh}
-use Rattle.turn_client_laws.proofs.Machine.{ForPermission, ForChannel, allocations, as_allocation, family_of, family_of_grant, has_request, is_for, same_ip, asked_lifetime, binding_indication}
+use Rattle.turn_client_laws.proofs.Machine.{ForPermission, ForChannel, allocations, as_allocation, family_of, family_of_grant, has_request, is_for, is_of, is_ranked, same_ip, asked_lifetime}
+use Rattle.turn_client_laws.proofs.Machine.{binding_indication}
 use Rattle.turn_client_laws.proofs.Machine.{fresh_id, id_used, request_for, to_server, has_reply, is_paused, is_refreshable, keepalive_times, refresh_time, is_due_in, is_refresh_due, keepalive_step}
-use Rattle.turn_client_laws.proofs.Machine.{Phase, Allocated, idle_step, is_allocated, next_refresh, refreshes_first, queue_step, front_sent, id_in_header, waits_begun, refresh_purpose, refreshes_in, refreshes_of_rank, reply_in, reply_step, sent_at_once, transmit_step, Has}
+use Rattle.turn_client_laws.proofs.Machine.{Phase, Allocated, idle_step, is_allocated, next_refresh, refreshes_first, queue_step, front_sent, settled, id_in_header, waits_begun, refresh_purpose, refreshes_in, refreshes_of_rank, reply_in, reply_step, sent_at_once, transmit_step, Has}
 use Rattle.std.proofs.lemmas.Nat.{mul-le}
 use Rattle.turn_client_laws.proofs.Machine.{filter_map-has, first-has, has-filter, has-filter_map, has-flat_map, has-left, has-right}
-use Rattle.turn_client_laws.proofs.Laws.{same_family-self, IsReserved, no_reply-kept, not_due-transmit, no_reply-left}
+use Rattle.turn_client_laws.proofs.Laws.{first_left, settled-first, same_family-self, IsReserved, no_reply-kept, not_due-transmit, no_reply-left}
 use Rattle.std.specs.Prelude.{option_and_then}
 use Rattle.std.proofs.lemmas.Slice.Eq.{bytes_eq-Decides}
 use Rattle.std.specs.Net.Addr.{ipv4_octets, ipv6_segments}
 use Rattle.std.specs.declared.net.ip_addr.IpAddr.TheVariants.{V4, V6}
 use Rattle.turn_client_runs.specs.History.{History}
-use Rattle.turn_client_runs.specs.Lasting.{expiry_of}
+use Rattle.turn_client_runs.specs.Lasting.{expiry_of, queue_ahead}
 use Rattle.turn_client_runs.proofs.AppendLemmas.{has-last}
 use Rattle.turn_client_runs.proofs.LastingCounts.{passes, passes-more, passes-same}
 use Rattle.turn_client_runs.proofs.LastingHistory.{lone-more}
-use Rattle.turn_client_runs.proofs.LastingStands.{Goes, goes-more, granted-active, leased-active, kept-rest, requested-more, IsActive, IsAwaited, IsIdle, IsRequested, IsLoose, IsUnique, IsKept}
+use Rattle.turn_client_runs.proofs.LastingStands.{ahead-more, Goes, goes-more, goes-trans, granted-active, leased-active, kept-rest, requested-more, IsActive, IsAwaited, IsIdle, IsRequested, IsLoose}
+use Rattle.turn_client_runs.proofs.LastingStands.{IsUnique, IsKept}
 use Rattle.turn_client_runs.proofs.LastingStands.{IsRefreshing, Stands, allocation-stands, stands-early, bound, bound-le, extra-paced, soon-by, Lag, taken, due_of, left-paced, is_served, is_waiting, kind-due, not-waiting}
 use Rattle.turn_client_runs.proofs.LastingStands.{served, used}
 use Rattle.turn_client_runs.proofs.LastingSends.{due-sends, is-due, may-refresh, queue-idle}
 use Rattle.turn_client_runs.proofs.LastingBegun.{goes-begun, kept-begun}
+use Rattle.turn_client_runs.proofs.LastingSettled.{goes-settled, kept-settled}
 use Rattle.turn_client_runs.proofs.LastingListings.{requests-more}
 use Rattle.turn_client_runs.proofs.LastingTime.{bound-early}
 use Rattle.turn_client_runs.proofs.GrantInputs.{IsLeased}
@@ -165,22 +168,22 @@ module _ (count slots extras : ℕ) (lag : Lag) (delay now : ℕ) (past : Histor
       old : leb (r + 150_000_000_000) (due_of s next.grant) ≡ false
       old =
           lt-leb (r + 150_000_000_000) (due_of s next.grant)
-          (omega (arith, unasked.1, k.behind, soon-by lag.since lag.pace (length s.queue) (bound slots lag past s g) idle.soon, bound-le count slots extras lag delay now past s.transactions s g k there stands.granted idle, k.pace))
+          (omega (arith, unasked.1, k.behind, soon-by lag.since lag.pace (queue_ahead s) (bound slots lag past s g) idle.soon, bound-le count slots extras lag delay now past s.transactions s g k there stands.granted idle, k.pace))
 
   -- what is queued is sent after it
   later : (g : Grant) → Has g s.grants → Stands count slots extras lag delay now past s.transactions s g → IsIdle slots lag now past s g
-      → now + s.config.request_cadence + lag.pace * length s.queue ≤ bound slots lag past t g
+      → now + s.config.request_cadence + lag.pace * queue_ahead s ≤ bound slots lag past t g
   later g there stands idle = elim (cases_lt (due_of s g) now) [
     | inl late ↦
         let more = serves-more g there stands idle in
         let whole =
-        extra-paced lag.pace lag.since (length s.queue) (due_of s g) slots (used past s (due_of s g)) (used past t (due_of s g)) (omega (arith, more)) idle.soon in
+        extra-paced lag.pace lag.since (queue_ahead s) (due_of s g) slots (used past s (due_of s g)) (used past t (due_of s g)) (omega (arith, more)) idle.soon in
         let paced = k.paced in
         let behind = k.behind in
         omega (arith, whole, paced, behind)
     | inr early ↦
         let paced = k.paced in
-        let few = mul-le lag.pace (length s.queue) lag.pace (slots + used past t (due_of s g)) (omega arith) (let few = k.few in omega (arith, few)) in
+        let few = mul-le lag.pace (queue_ahead s) lag.pace (slots + used past t (due_of s g)) (omega arith) (let few = k.few in omega (arith, few)) in
         omega (arith, early, paced, few)
   ]
 
@@ -200,7 +203,7 @@ module _ (count slots extras : ℕ) (lag : Lag) (delay now : ℕ) (past : Histor
           within = has-right listing s.listed (listing ∷ []) (inl refl);
           for = for;
           same = refl;
-          made = omega (arith, fresh, k.behind, soon-by lag.since lag.pace (length s.queue) (bound slots lag past s g) idle.soon, bound-early count slots extras lag delay now past s.transactions s g k there was idle);
+          made = omega (arith, fresh, k.behind, soon-by lag.since lag.pace (queue_ahead s) (bound slots lag past s g) idle.soon, bound-early count slots extras lag delay now past s.transactions s g k there was idle);
         })
         | inr other ↦
             let more = later g there was idle in
@@ -277,52 +280,15 @@ module _ (count slots extras : ℕ) (lag : Lag) (delay now : ℕ) (past : Histor
   pub goes-sent : Goes past past s.transactions t.transactions s t
   goes-sent = goes-more past s.transactions t.transactions s t refl (λ x h. has-left x s.transactions _ h) (λ l h. has-left l s.listed _ h)
 
--- ---- what is queued
+-- ---- nothing is to be refreshed
 
+-- Then each refresh is still to come, so a pause that begins now delays none.
 module _ (count slots extras : ℕ) (lag : Lag) (delay now : ℕ) (past : History) (s : State)
-    (k : IsKept count slots extras lag delay now past s.transactions s) (q : Queued) (qs : List Queued) (front : s.queue ≡ q ∷ qs) where
-  abbrev v : State
-  v = record s { queue = drop 1 s.queue; last_send = Some now }
-
-  one-left : length v.queue + 1 ≡ length s.queue
-  one-left = rw front (omega arith)
-
-  stands-queued : (g : Grant) → Stands count slots extras lag delay now past s.transactions s g
-      → Stands count slots extras (taken now lag) delay now past s.transactions (record s { queue = drop 1 s.queue; last_send = Some now }) g
-  stands-queued g was = record {
-    granted = was.granted;
-    room = was.room;
-    long = was.long;
-    either = elim was.either [
-      | inl a ↦ inl a
-      | inr idle ↦
-          let (soon, paused) = left-paced lag.pace lag.since (length v.queue) (length s.queue) (bound slots lag past s g) one-left idle.soon in
-          let paced = k.paced in
-          let behind = k.behind in
-          inr (record { unasked = idle.unasked; near = idle.near; soon = omega (arith, paused, paced, behind); paused = omega (arith, paused, paced, behind) })
-    ];
-  }
-
-  pub kept-queued : IsKept count slots extras (taken now lag) delay now past s.transactions (record s { queue = drop 1 s.queue; last_send = Some now })
-  kept-queued = kept-rest count slots extras lag delay now past s.transactions s k now (drop 1 s.queue) (Some now) s.transactions s.events s.ids s.closes (record {
-    begins = omega arith;
-    behind = omega arith;
-    requests = no_reply-left s.queue k.requests;
-    few = let few = k.few in omega (arith, few, one-left);
-    sent = omega arith;
-    awaited = λ x h. h;
-    stands = λ g there. stands-queued g;
-  })
-
--- ---- the path is kept alive
-
--- With nothing to refresh, each refresh is still to come, so a pause that begins now delays none.
-module _ (count slots extras : ℕ) (lag : Lag) (delay now : ℕ) (past : History) (s : State)
-    (k : IsKept count slots extras lag delay now past s.transactions s) (empty : s.queue ≡ []) (nothing : next_refresh now s ≡ None) where
+    (k : IsKept count slots extras lag delay now past s.transactions s) (nothing : next_refresh now s ≡ None) where
   kept-in_use : (b : Relay) → Has (Allocation b) s.grants → b.is_expired ≡ false
   kept-in_use b h = (allocation-stands count slots extras lag delay now past s.transactions s k b h).granted
 
-  still-early : (g : Grant) → Has g s.grants → Stands count slots extras lag delay now past s.transactions s g → IsIdle slots lag now past s g → now < due_of s g
+  pub still-early : (g : Grant) → Has g s.grants → Stands count slots extras lag delay now past s.transactions s g → IsIdle slots lag now past s g → now < due_of s g
   still-early g there stands idle = elim (cases_lt now (due_of s g)) [
     | inl early ↦ early
     | inr late ↦
@@ -336,6 +302,7 @@ module _ (count slots extras : ℕ) (lag : Lag) (delay now : ℕ) (past : Histor
         absurd (let no : false ≡ true = rw nothing at some in cc)
   ]
 
+  -- the path is kept alive
   stands-alive : (g : Grant) → Has g s.grants → Stands count slots extras lag delay now past s.transactions s g
       → Stands count slots extras (taken now lag) delay now past s.transactions (record s { ids = (id_used s).ids; last_send = Some now }) g
   stands-alive g there was = record {
@@ -345,10 +312,10 @@ module _ (count slots extras : ℕ) (lag : Lag) (delay now : ℕ) (past : Histor
     either = elim was.either [
       | inl a ↦ inl a
       | inr idle ↦
-          let none : length s.queue ≡ 0 = rw empty refl in
           let early = still-early g there was idle in
           let paced = k.paced in
-          inr (record { unasked = idle.unasked; near = idle.near; soon = rw none (omega (arith, early)); paused = rw none (omega (arith, early, paced)) })
+          let few = mul-le lag.pace (queue_ahead s) lag.pace (slots + used past s (due_of s g)) (omega arith) (let few = k.few in omega (arith, few)) in
+          inr (record { unasked = idle.unasked; near = idle.near; soon = omega (arith, early, few); paused = omega (arith, early, paced, few) })
     ];
   }
 
@@ -363,7 +330,90 @@ module _ (count slots extras : ℕ) (lag : Lag) (delay now : ℕ) (past : Histor
     stands = stands-alive;
   })
 
+-- ---- what is queued
+
+-- Those that are queued leave before refreshes. Or nothing is to be refreshed.
+abbrev LeavesFirst : ℕ → State → Type 0
+LeavesFirst now s = (s.config.timed_from_send ≡ false) ⊎ (next_refresh now s ≡ None)
+
+module _ (count slots extras : ℕ) (lag : Lag) (delay now : ℕ) (past : History) (s : State)
+    (k : IsKept count slots extras lag delay now past s.transactions s) (q : Queued) (qs : List Queued) (front : s.queue ≡ q ∷ qs) (first : LeavesFirst now s) where
+  abbrev v : State
+  v = record s { queue = drop 1 s.queue; last_send = Some now }
+
+  one-left : length v.queue + 1 ≡ length s.queue
+  one-left = rw front (omega arith)
+
+  fewer : queue_ahead v ≤ queue_ahead s
+  fewer = let all = ahead-more s v 0 refl (omega (arith, one-left)) in omega (arith, all)
+
+  stands-queued : (g : Grant) → Has g s.grants → Stands count slots extras lag delay now past s.transactions s g
+      → Stands count slots extras (taken now lag) delay now past s.transactions (record s { queue = drop 1 s.queue; last_send = Some now }) g
+  stands-queued g there was = record {
+    granted = was.granted;
+    room = was.room;
+    long = was.long;
+    either = elim was.either [ inl a ↦ inl a | inr idle ↦ inr (by first idle) ];
+  }
+    where
+      by : LeavesFirst now s → IsIdle slots lag now past s g → IsIdle slots (taken now lag) now past v g
+      by (inl untimed) idle =
+          let all : queue_ahead s ≡ length s.queue = rw untimed refl in
+          let rest : queue_ahead v ≡ length v.queue = rw untimed refl in
+          let (soon, paused) = left-paced lag.pace lag.since (queue_ahead v) (queue_ahead s) (bound slots lag past s g) (omega (arith, all, rest, one-left)) idle.soon in
+          let paced = k.paced in
+          let behind = k.behind in
+          record { unasked = idle.unasked; near = idle.near; soon = omega (arith, paused, paced, behind); paused = omega (arith, paused, paced, behind) }
+      by (inr nothing) idle =
+          let early = still-early count slots extras lag delay now past s k nothing g there was idle in
+          let paced = k.paced in
+          let few = mul-le lag.pace (queue_ahead v) lag.pace (slots + used past s (due_of s g)) (omega arith) (let few = k.few in omega (arith, few, fewer)) in
+          record { unasked = idle.unasked; near = idle.near; soon = omega (arith, early, few); paused = omega (arith, early, paced, few) }
+
+  pub kept-queued : IsKept count slots extras (taken now lag) delay now past s.transactions (record s { queue = drop 1 s.queue; last_send = Some now })
+  kept-queued = kept-rest count slots extras lag delay now past s.transactions s k now (drop 1 s.queue) (Some now) s.transactions s.events s.ids s.closes (record {
+    begins = omega arith;
+    behind = omega arith;
+    requests = no_reply-left s.queue k.requests;
+    few = let few = k.few in omega (arith, few, fewer);
+    sent = omega arith;
+    awaited = λ x h. h;
+    stands = stands-queued;
+  })
+
 -- ---- poll_transmit
+
+-- what is to be refreshed does not depend on the queue
+module _ (now : ℕ) (s : State) where
+  able-settled : (g : Grant) → is_refreshable g (settled s) ≡ is_refreshable g s
+  able-settled (Allocation a) = refl
+  able-settled g = refl
+
+  time-settled : (g : Grant) → refresh_time (settled s) g ≡ refresh_time s g
+  unfolding refresh_time
+  time-settled g = rw (able-settled g) refl
+
+  due-settled : (g : Grant) → is_refresh_due now (settled s) g ≡ is_refresh_due now s g
+  unfolding is_refresh_due
+  due-settled g = rw (time-settled g) refl
+
+  refresh-settled : next_refresh now (settled s) ≡ next_refresh now s
+  refresh-settled = ap by (λ i g. due-settled g i)
+    where
+      of_rank : (Grant → Bool) → Relay → ℕ → List Purpose
+      of_rank due a rank = filter_map (refresh_purpose now) (filter (λ g. is_ranked rank g && is_of (family_of a.relayed) g && due g) s.grants)
+
+      by : (Grant → Bool) → Option Purpose
+      by due = slice_get (flat_map (λ a. cond (leb now a.expiry) (flat_map (of_rank due a) (0 ∷ 1 ∷ 2 ∷ [])) []) (allocations s)) 0
+
+-- where no refresh goes first, what is queued may
+leaves-first : (now : ℕ) (s : State) → s.phase ≡ Allocated → refreshes_first now s ≡ false → LeavesFirst now s
+leaves-first now s allocated e = by s.config.timed_from_send refl (next_refresh now s) refl
+  where
+    by : (timed : Bool) → s.config.timed_from_send ≡ timed → (o : Option Purpose) → next_refresh now s ≡ o → LeavesFirst now s
+    by false untimed o f = inl untimed
+    by true timed None f = inr f
+    by true timed (Some p) f = absurd (let no : true ≡ false = rw (f, timed, allocated) at e in cc)
 
 -- no grant changes, and a packet that is taken ends the lag
 abbrev pub KeepsOn : ℕ → ℕ → ℕ → Lag → ℕ → ℕ → History → State → Option (Transmit (List ℕ)) × State → Type 0
@@ -400,14 +450,14 @@ transmit-kept count slots extras lag delay now past s k fresh none = rw (not_due
     same : (z : Option (Transmit (List ℕ)) × State) → z ≡ (None, s) → Keeps z
     same z e = subst Keeps (sym e) (k, goes-more past s.transactions s.transactions s s refl (λ x h. h) (λ l h. h))
 
-    keeps : (b : Bool) → s.queue ≡ [] → next_refresh now s ≡ None
+    keeps : (b : Bool) → next_refresh now s ≡ None
         → Keeps (cond {A = Option (Transmit (List ℕ)) × State} b (Some (to_server s s.local (binding_indication (fresh_id s))), Rattle.turn_client_api.specs.Transmit.sent now (id_used s)) (None, s))
-    keeps true empty e = (
-      kept-alive count slots extras lag delay now past s k empty e,
+    keeps true e = (
+      kept-alive count slots extras lag delay now past s k e,
       goes-more past s.transactions s.transactions s
           (record s { ids = (id_used s).ids; last_send = Some now }) refl (λ x h. h) (λ l h. h),
     )
-    keeps false empty e = (k, goes-more past s.transactions s.transactions s s refl (λ x h. h) (λ l h. h))
+    keeps false e = (k, goes-more past s.transactions s.transactions s s refl (λ x h. h) (λ l h. h))
 
     sends : (p : Purpose) (next : IsNext now s p) → IsActive next.grant → Keeps (sent_at_once (request_for s p (fresh_id s)) p now s)
     sends p next active =
@@ -424,10 +474,10 @@ transmit-kept count slots extras lag delay now past s k fresh none = rw (not_due
           | inr (inr (inr (is, none))) ↦ absurd (due-unreserved now s next.grant is next.is_due)
         ]
 
-    refreshes : s.queue ≡ [] → (o : Option Purpose) → next_refresh now s ≡ o
+    refreshes : (o : Option Purpose) → next_refresh now s ≡ o
         → Keeps (option_map_or (λ purpose. sent_at_once (request_for s purpose (fresh_id s)) purpose now s) o (keepalive_step now s))
-    refreshes empty None e = keeps (list_any (λ time. nat_le time now) (keepalive_times s)) empty e
-    refreshes empty (Some p) e = renews p e
+    refreshes None e = keeps (list_any (λ time. nat_le time now) (keepalive_times s)) e
+    refreshes (Some p) e = renews p e
 
     -- a refresh goes first, and the client has allocations
     first : (o : Option Purpose) → next_refresh now s ≡ o → is_some o ≡ true
@@ -435,30 +485,45 @@ transmit-kept count slots extras lag delay now past s k fresh none = rw (not_due
     first None e some = cc
     first (Some p) e some = renews p e
 
-    queued : (queue : List Queued) → s.queue ≡ queue → Keeps (queue_step now s)
-    queued [] e = rw (queue-idle now s e k.phase) (refreshes e (next_refresh now s) refl)
-    queued (q ∷ qs) e = chosen (refreshes_first now s) refl
+    queued : (o : Option Queued) → first_left s s.queue ≡ o → Keeps (queue_step now s)
+    queued None e = rw (queue-idle now s e k.phase) (refreshes (next_refresh now s) refl)
+    queued (Some q) e = chosen (refreshes_first now s) refl
       where
-        front : (queue : List Queued) → queue ≡ q ∷ qs
-            → (option_map_or (λ q. (Some q.packet, front_sent now q s)) (slice_get queue 0) (idle_step s.phase now s))
-            ≡ (Some q.packet, front_sent now q s)
-        front queue e = rw e refl
+        front : (o : Option Queued) → o ≡ Some q
+            → (option_map_or (λ q. (Some q.packet, front_sent now q (settled s))) o (idle_step s.phase now s))
+            ≡ (Some q.packet, front_sent now q (settled s))
+        front o e = rw e refl
+
+        w : State
+        w = settled s
 
         v : State
-        v = record s { queue = drop 1 s.queue; last_send = Some now }
+        v = record w { queue = drop 1 w.queue; last_send = Some now }
 
-        left : IsKept count slots extras (taken now lag) delay now past s.transactions v
-        left = kept-queued count slots extras lag delay now past s k q qs e
+        left : refreshes_first now s ≡ false → IsKept count slots extras (taken now lag) delay now past w.transactions v
+        left later =
+            let (others, is) = settled-first s q e in
+            kept-queued count slots extras lag delay now past w (kept-settled count slots extras lag delay now past s k) q others is first_of_all
+          where
+            first_of_all : LeavesFirst now w
+            first_of_all = elim (leaves-first now s k.phase later) [ inl untimed ↦ inl untimed | inr nothing ↦ inr (refresh-settled now s ∙ nothing) ]
 
-        same-left : Keeps (Some q.packet, v)
-        same-left = (left, goes-more past s.transactions s.transactions s v refl (λ x h. h) (λ l h. h))
+        goes : Goes past past s.transactions w.transactions s v
+        goes = goes-settled count slots extras lag delay now past s k v refl refl
+
+        same-left : refreshes_first now s ≡ false → Keeps (Some q.packet, v)
+        same-left later = (left later, goes)
 
         -- its waits may begin now
-        by : (timed : Bool) (o : Option ℕ) → Keeps
-            (Some q.packet, record v { transactions = cond timed (option_map_or (λ id. waits_begun id now s.transactions) o s.transactions) s.transactions })
-        by true (Some id) = (kept-begun count slots extras (taken now lag) delay now past v left id, goes-begun count slots extras (taken now lag) delay now past v left id s refl refl)
-        by true None = same-left
-        by false o = same-left
+        by : refreshes_first now s ≡ false → (timed : Bool) (o : Option ℕ) → Keeps
+            (Some q.packet, record v { transactions = cond timed (option_map_or (λ id. waits_begun id now w.transactions) o w.transactions) w.transactions })
+        by later true (Some id) = (
+          kept-begun count slots extras (taken now lag) delay now past v (left later) id,
+          goes-trans past past past s.transactions w.transactions (waits_begun id now w.transactions) s v (record v { transactions = waits_begun id now w.transactions })
+              goes (goes-begun count slots extras (taken now lag) delay now past v (left later) id v refl refl),
+        )
+        by later true None = same-left later
+        by later false o = same-left later
 
         at_once : (phase : Phase) → phase ≡ Allocated → refreshes_first now s ≡ true → Keeps (idle_step phase now s)
         at_once phase is e =
@@ -466,10 +531,10 @@ transmit-kept count slots extras lag delay now past s k fresh none = rw (not_due
             rw is (first (next_refresh now s) refl some)
 
         chosen : (b : Bool) → refreshes_first now s ≡ b
-            → Keeps (option_map_or (λ (q : Queued). (Some q.packet, front_sent now q s)) (cond {A = Option Queued} b None (slice_get s.queue 0)) (idle_step s.phase now s))
+            → Keeps (option_map_or (λ (q : Queued). (Some q.packet, front_sent now q (settled s))) (cond {A = Option Queued} b None (first_left s s.queue)) (idle_step s.phase now s))
         chosen true first_is = at_once s.phase k.phase first_is
-        chosen false first_is = subst Keeps (sym (front s.queue e)) (by (s.config.timed_from_send && q.is_request) (id_in_header q.packet.payload))
+        chosen false first_is = subst Keeps (sym (front (first_left s s.queue) e)) (by first_is (s.config.timed_from_send && q.is_request) (id_in_header q.packet.payload))
 
     by : (b : Bool) → Keeps (if b then reply_step s else queue_step now s)
     by true = same (reply_step s) (empty-kept s k.requests)
-    by false = queued s.queue refl
+    by false = queued (first_left s s.queue) refl

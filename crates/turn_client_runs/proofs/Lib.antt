@@ -17,6 +17,7 @@ pub mod ComingLemmas
 pub mod CutRelayLemmas
 pub mod DeliveryLemmas
 pub mod DeliveryRuns
+pub mod DrainLemmas
 pub mod EndCalls
 pub mod EndLemmas
 pub mod EndMessages
@@ -31,7 +32,9 @@ pub mod FedStepLemmas
 pub mod FollowLemmas
 pub mod GrantInputs
 pub mod HandshakeLemmas
+pub mod HandshakePauseLemmas
 pub mod HandshakeRowLemmas
+pub mod HeaderLemmas
 pub mod HeldLemmas
 pub mod HoldLemmas
 pub mod InOrderRuns
@@ -54,11 +57,14 @@ pub mod LastingPolls
 pub mod LastingReplies
 pub mod LastingRowLemmas
 pub mod LastingRuns
+pub mod LastingSettled
 mod LastingSeen
 mod LastingNoise
 mod LastingGranted
 pub mod LastingPieces
 pub mod LastingWays
+pub mod LeavingRuns
+pub mod LeavingTexts
 pub mod LastingSends
 pub mod LastingSpared
 pub mod LastingStands
@@ -104,6 +110,7 @@ pub mod SentCalls
 pub mod SentQueues
 pub mod SentRuns
 pub mod SentTexts
+pub mod SentWalk
 pub mod ServerLemmas
 pub mod ShortLemmas
 pub mod SignedBytes

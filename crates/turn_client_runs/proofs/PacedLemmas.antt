@@ -1,19 +1,19 @@
 -- Requests that are timed from their first copies leave in their turn.
 use Rattle.turn_client_laws.proofs.Common.{◌≡◌, ◌⊎◌, ◌∙◌, ◌++◌, ◌+◌, ◌-◌, ◌^◌, ◌≤◌, ◌&&◌, ℕ, Bool, true, false, cond, eqb, leb, List, [], ◌∷◌, Option, Some, None, refl, subst, sym, ap, inl, inr}
 use Rattle.turn_client_laws.proofs.Common.{arith, min, is_none, slice_get, filter_map, flat_map, list_any, drop, nat_le, All, All-head, All-tail, Contains, append_assoc, append-nil, and_parts}
-use Rattle.turn_client_laws.proofs.Common.{option_map_or, eqb-true, leb-true, cond_some, ltb, ltb-false}
+use Rattle.turn_client_laws.proofs.Common.{option_map_or, eqb-true, leb-true, cond_some, ltb, ltb-false, same_Some}
 use Rattle.turn_client_laws.proofs.Machine.{id_of, header_fault_of, Transmit, TransportType, Timers, resends_of, due, is_due, is_timed_out, transaction_timeout, resent, sent_again, waiting_from, waits_begun}
 use Rattle.turn_client_laws.proofs.Machine.{first_sent, Transaction, Config, timers_of, State, agent_of, later_by, initial, Call, Delete, CreatePermission, BindChannel, TcpConnect, AllocatedTcpSocket}
 use Rattle.turn_client_laws.proofs.Machine.{TcpClosed, SendTo, Recv, PollRecv, Poll, PollTransmit, PollEvent, RelayedAddresses, Permissions, HavePermission, ProtocolError, SetPermissionKept, SetChannelKept}
 use Rattle.turn_client_laws.proofs.Machine.{Phase, New, Requesting, Allocated, Purpose, Queued, is_paused, pause_end, keepalive_times, allocations, waits_from, fresh_id, first_allocate}
-use Rattle.turn_client_laws.proofs.Machine.{request_for, to_server, state_after, state_after_all, idle_step, keepalive_step, next_queued, queue_step, front_sent, id_in_header, refreshes_in, reply_in, reply_step}
-use Rattle.turn_client_laws.proofs.Machine.{sent, sent_at_once, transmit_step, Has, has-append, has-found, first-has, map-has}
+use Rattle.turn_client_laws.proofs.Machine.{request_for, to_server, state_after, state_after_all, idle_step, keepalive_step, next_queued, queue_step, front_sent, settled, id_in_header, refreshes_in, reply_in, reply_step}
+use Rattle.turn_client_laws.proofs.Machine.{sent, sent_at_once, transmit_step, Has, has-append, has-found, filter_map-has, first-has, has_ended, map-has}
 use Rattle.turn_client_laws.specs.LawsRequests as L
-use Rattle.turn_client_laws.proofs.Laws.{AsksFor, IsRequestOf, IsMadeAs, Input, IsDoneBy, by_found, by_test, has-mapped, has-contains, contains-has, requests-made}
+use Rattle.turn_client_laws.proofs.Laws.{AsksFor, IsRequestOf, IsMadeAs, Input, IsDoneBy, by_found, by_test, has-mapped, has-contains, contains-has, queued-there, requests-made, settled-has}
 use Rattle.turn_client_laws.proofs.Laws.{before-kept, edits-IsKept, fixed-all-edits}
 use Rattle.turn_client_runs.specs.Holds.{HoldsOfRuns}
 use Rattle.turn_client_runs.specs.OnTime.{time_of}
-use Rattle.turn_client_runs.specs.Paced.{HasLeft, IsApart, IsReply, IsRequestUnder, IsSentAgain, RequestsArePaced, RequestsLeaveInTurn, TimesOutOnceSent}
+use Rattle.turn_client_runs.specs.Paced.{HasLeft, IsApart, IsReply, IsRequestUnder, IsToLeave, IsSentAgain, RequestsArePaced, RequestsLeaveInTurn, TimesOutOnceSent}
 use Rattle.turn_client_runs.proofs.ChallengeLemmas.{run-configured}
 use Rattle.turn_client_runs.proofs.SendTimeLemmas.{SendsNone, others-same}
 
@@ -94,7 +94,20 @@ module _ (now : ℕ) (s : State) where
   IsDueFor packet = (x : Transaction) × (due (agent_of s) now ≡ Some x) × (packet.payload ≡ x.request)
 
   abbrev Kinds : Option (Transmit (List ℕ)) × State → Type 0
-  Kinds x = (packet : Transmit (List ℕ)) → x.0 ≡ Some packet → IsReply packet s ⊎ (IsDueFor packet ⊎ (is_paused now s ≡ false))
+  Kinds x = (packet : Transmit (List ℕ)) → x.0 ≡ Some packet → IsReply packet s ⊎ (IsDueFor packet ⊎ ((is_paused now s ≡ false) × IsToLeave now packet s))
+
+  front-kinds : is_paused now s ≡ false → (q : Queued) → next_queued now s ≡ Some q → Kinds (Some q.packet, front_sent now q (settled s))
+  front-kinds over q f packet g = by q.is_request refl
+    where
+      same : q.packet ≡ packet
+      same = same_Some q.packet packet g
+
+      found : Has q s.queue × (has_ended s q ≡ false)
+      found = queued-there now s q f
+
+      by : (b : Bool) → q.is_request ≡ b → IsReply packet s ⊎ (IsDueFor packet ⊎ ((is_paused now s ≡ false) × IsToLeave now packet s))
+      by true e = inr (inr (over, inl (q, has-contains q s.queue found.0, same, rw (found.1, e) refl)))
+      by false e = inl (has-contains packet (filter_map reply_in s.queue) (filter_map-has reply_in q packet s.queue found.0 (rw e g)))
 
   transmit-kinds : Kinds (transmit_step now s)
   transmit-kinds =
@@ -102,7 +115,8 @@ module _ (now : ℕ) (s : State) where
       (λ x e packet f.
       let same : record (to_server s s.local x.request) { to = x.to } ≡ packet = cc in
       inr (inl (x, e, ap (λ (p : Transmit (List ℕ)). p.payload) (sym same))))
-      (by_test Kinds (is_paused now s) (reply_step s) (queue_step now s) (λ e packet f. inl (replies packet f)) (λ e packet f. inr (inr e)))
+      (by_test Kinds (is_paused now s) (reply_step s) (queue_step now s) (λ e packet f. inl (replies packet f))
+      (λ e. by_found Kinds _ (next_queued now s) (idle_step s.phase now s) (front-kinds e) (λ packet f. inr (inr (e, inr f)))))
 
 -- ---- a request that has not left waits for no time
 
@@ -216,16 +230,20 @@ module _ (first : State) (timed : first.config.timed_from_send ≡ true) where
                 inr (rw is-it left)
             for false g = let other : again z ≡ z = rw g refl in subst (Waits more) (sym (f ∙ other)) (waits-still calls (PollTransmit now) z (all z is))
 
+    -- what is left of the requests
+    abbrev kept : List Transaction
+    kept = (settled s).transactions
+
     -- the first copy of a queued request
     begun-waits : (q : Queued) (queue : List Queued) (id : ℕ) → id_in_header q.packet.payload ≡ Some id
-        → Sends (Some q.packet, sent now (record s { queue = queue; transactions = waits_begun id now s.transactions }))
-    begun-waits q queue id header e y there = by (has-mapped begun y s.transactions there)
+        → Sends (Some q.packet, sent now (record s { queue = queue; transactions = waits_begun id now kept }))
+    begun-waits q queue id header e y there = by (has-mapped begun y kept there)
       where
         begun : Transaction → Transaction
         begun z = cond (eqb z.id id) (waiting_from now z) z
 
         t : State
-        t = sent now (record s { queue = queue; transactions = waits_begun id now s.transactions })
+        t = sent now (record s { queue = queue; transactions = waits_begun id now kept })
 
         same-id : (z : Transaction) → (begun z).id ≡ z.id
         same-id z = for (eqb z.id id)
@@ -237,26 +255,29 @@ module _ (first : State) (timed : first.config.timed_from_send ≡ true) where
         left : HasLeft id first more
         left = left-now (Some q.packet, t) q.packet id e refl (inl (cond_some (is_none (header_fault_of q.packet.payload)) (id_of q.packet.payload) id header).1)
 
-        by : (z : Transaction) × Has z s.transactions × (y ≡ begun z) → Waits more y
+        by : (z : Transaction) × Has z kept × (y ≡ begun z) → Waits more y
         by (z, is, f) = for (eqb z.id id) refl
           where
             for : (b : Bool) → eqb z.id id ≡ b → Waits more y
             for true g =
                 let is-it : y.id ≡ id = ap (λ (w : Transaction). w.id) f ∙ (same-id z ∙ eqb-true z.id id g) in
                 inr (rw is-it left)
-            for false g = let other : begun z ≡ z = rw g refl in subst (Waits more) (sym (f ∙ other)) (waits-still calls (PollTransmit now) z (all z is))
+            for false g = let other : begun z ≡ z = rw g refl in subst (Waits more) (sym (f ∙ other)) (waits-still calls (PollTransmit now) z (all z (settled-has s z is)))
 
-    front-waits : (q : Queued) → Sends (Some q.packet, front_sent now q s)
+    kept-waits : (x : Option (Transmit (List ℕ)) × State) → x.1.transactions ≡ kept → Sends x
+    kept-waits x same e y there = waits-still calls (PollTransmit now) y (all y (settled-has s y (subst (Has y) same there)))
+
+    front-waits : (q : Queued) → Sends (Some q.packet, front_sent now q (settled s))
     front-waits q = by (s.config.timed_from_send && q.is_request) (id_in_header q.packet.payload) refl
       where
         queue : List Queued
-        queue = drop 1 s.queue
+        queue = drop 1 (settled s).queue
 
         by : (b : Bool) (o : Option ℕ) → id_in_header q.packet.payload ≡ o
-            → Sends (Some q.packet, sent now (record s { queue = queue; transactions = cond b (option_map_or (λ id. waits_begun id now s.transactions) o s.transactions) s.transactions }))
+            → Sends (Some q.packet, sent now (record s { queue = queue; transactions = cond b (option_map_or (λ id. waits_begun id now kept) o kept) kept }))
         by true (Some id) e = begun-waits q queue id e
-        by true None e = old-waits _ refl
-        by false o e = old-waits _ refl
+        by true None e = kept-waits _ refl
+        by false o e = kept-waits _ refl
 
     -- a request that is made and sent at once
     made-waits : (text : List ℕ) (purpose : Purpose) (u : State) → u.transactions ≡ s.transactions → Sends (sent_at_once text purpose now u)
@@ -404,11 +425,11 @@ module _ (first : State) (timed : first.config.timed_from_send ≡ true) where
     in-turn : RequestsLeaveInTurn first calls
     in-turn earlier now later packet split range given = by (transmit-kinds now (at earlier) packet given)
       where
-        by : IsReply packet (at earlier) ⊎ (IsDueFor now (at earlier) packet ⊎ (is_paused now (at earlier) ≡ false))
-            → IsReply packet (at earlier) ⊎ (IsSentAgain packet first earlier ⊎ IsApart now first earlier)
+        by : IsReply packet (at earlier) ⊎ (IsDueFor now (at earlier) packet ⊎ ((is_paused now (at earlier) ≡ false) × IsToLeave now packet (at earlier)))
+            → IsReply packet (at earlier) ⊎ (IsSentAgain packet first earlier ⊎ (IsApart now first earlier × IsToLeave now packet (at earlier)))
         by (inl reply) = inl reply
         by (inr (inl again)) = inr (inl (sent-again earlier now packet range again))
-        by (inr (inr over)) = inr (inr (apart earlier now over))
+        by (inr (inr (over, copy))) = inr (inr (apart earlier now over, copy))
 
     once-sent : TimesOutOnceSent first calls
     once-sent earlier now later x split range e =

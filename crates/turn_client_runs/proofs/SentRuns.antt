@@ -1,196 +1,190 @@
 -- In a run all packets go to the server, from the control address or over the data connection that they bind, and
 -- data to the peer that was named.
-use Rattle.turn_client_laws.proofs.Common.{◌≡◌, ◌⊎◌, ◌∙◌, ◌++◌, ℕ, Bool, true, false, cond, leb, List, [], ◌∷◌, filter_map, flat_map, Option, Some, None, Result, Ok, refl, subst, ap, inl, inr, arith}
-use Rattle.turn_client_laws.proofs.Common.{find, is_none, is_some, nat_le, slice_get, ⊤, Contains, list_any, socket_ip, and_parts, leb-true, SocketAddr}
-use Rattle.turn_client_laws.proofs.Machine.{id_of, TransportType, Udp, Tcp, Transmit, channel_frame, send_indication, due, is_due, same_address, Transaction, Config, timers_of, State, agent_of}
-use Rattle.turn_client_laws.proofs.Machine.{initial, Call, Recv, PollRecv, DataConnection, Grant, Channel, Connection, Lease, Listing, Active, Purpose, ForBind, Phase, New, Requesting, Allocated}
-use Rattle.turn_client_laws.proofs.Machine.{Queued, active_channel, bound_to, can_send_to, on_channel, on_connection, send_over, send_to_step, bind_step, connection_at, is_paused, keepalive_times}
-use Rattle.turn_client_laws.proofs.Machine.{allocations, as_connection, purposes_of, message_step, connection_gone, binding_indication, first_allocate, fresh_id, request_for, state_after}
-use Rattle.turn_client_laws.proofs.Machine.{state_after_all, idle_step, keepalive_step, next_queued, queue_step, refreshes_in, reply_in, reply_step, sent_at_once, transmit_step, same_address-true, Has, first-has}
-use Rattle.turn_client_laws.proofs.Machine.{has-all, has-filter_map, has-found}
-use Rattle.turn_client_laws.proofs.Laws.{queued-first, TakesInput, IsAnswer, AsksServer, IsToServer, by_found, by_test, KeepsAllEdits, calls-walk, edits-IsKept, purposes-listed, bind-moves, message-moves, on_test}
-use Rattle.turn_client_laws.proofs.Laws.{gone-settles, all-phase-edits, IsKept, poll_recv-kept, recv-kept, contains-has, has-contains}
+use Rattle.turn_client_laws.proofs.Common.{◌≡◌, ◌⊎◌, ◌∙◌, ◌++◌, ℕ, Bool, true, false, cond, leb, List, [], ◌∷◌, filter_map, flat_map, Option, Some, None, Result, Ok, refl, subst, ap, inl, inr, arith, sym, Contains-append_right}
+use Rattle.turn_client_laws.proofs.Common.{find, is_none, nat_le, ⊤, Contains, list_any, socket_ip, and_parts, leb-true, SocketAddr}
+use Rattle.turn_client_laws.proofs.Machine.{TransportType, Udp, Tcp, Transmit, channel_frame, send_indication, due, is_due, same_address, Transaction, Config, timers_of, State, agent_of, Challenge, ForChannel, next_refresh, next_transmit, to_server, ForPermission}
+use Rattle.turn_client_laws.proofs.Machine.{initial, Call, DataConnection, Grant, Channel, Connection, Lease, Active, Purpose, ForBind, Phase, New, Allocated}
+use Rattle.turn_client_laws.proofs.Machine.{Queued, active_channel, bound_to, can_send_to, on_channel, on_connection, send_over, send_to_step, is_paused, keepalive_times}
+use Rattle.turn_client_laws.proofs.Machine.{allocations, as_connection, binding_indication, first_allocate, fresh_id, request_for}
+use Rattle.turn_client_laws.proofs.Machine.{state_after_all, idle_step, keepalive_step, next_queued, queue_step, refreshes_in, reply_in, reply_step, transmit_step, same_address-true, Has, first-has}
+use Rattle.turn_client_laws.proofs.Machine.{has-all, has-filter_map, has-found, AllocatedTcpSocket, BindChannel, bound, challenge_in}
+use Rattle.turn_client_laws.proofs.Laws.{queued-there, AsksServer, IsToServer, by_found, by_test}
+use Rattle.turn_client_laws.proofs.Laws.{has-contains, Input, initial-HasGrantsAsked, initial-numbers}
 use Rattle.turn_client_api.specs.declared.error.SendError.{SendError}
 use Rattle.turn_client_laws.proofs.SentToServer.{initial-AsksServer, leaves-AsksServer}
-use Rattle.turn_client_runs.specs.Sent.{GoesToServer, IsBindOf, IsNoBind, IsOnConnection, IsSentTo, PacketsGoOut, SendsToPeers, SendsToServer, WasOpened, from_control}
+use Rattle.turn_client_runs.specs.Holds.{HoldsOfRuns}
+use Rattle.turn_client_runs.specs.Inputs.{handled_in}
+use Rattle.turn_client_runs.specs.Leaving.{IsNamed, IsOwnRequest, Names, WasHeard}
+use Rattle.turn_client_runs.specs.Sent.{GoesToServer, IsBindFrom, IsNoBind, IsOnConnection, IsSentTo, PacketsGoOut, SendsToPeers, SendsToServer, WasOpened, from_control}
 use Rattle.turn_client_runs.proofs.HoldLemmas.{holds-found}
-use Rattle.turn_client_runs.proofs.SentCalls.{OpensFor, call-queues, listed-opens, refreshes-else}
-use Rattle.turn_client_runs.proofs.SentQueues.{GoesOut, IsListedBind, Queues, bind-queues, message-queues}
-use Rattle.turn_client_runs.proofs.SentTexts.{first-else, indication-else, request-else}
+use Rattle.turn_client_runs.proofs.SentCalls.{IsOpenedIf, refreshes-else}
+use Rattle.turn_client_runs.proofs.SentQueues.{IsBindText, IsControlText}
+use Rattle.turn_client_runs.proofs.SentTexts.{first-else, indication-else, request-else, requests-else, responds-else}
+use Rattle.turn_client_runs.proofs.SentWalk.{GoesOn, GoesWell, Stays, next-asked, run-goes}
 
--- ---- what never changes of a client
+-- ---- what a packet of `poll_transmit` is
 
-abbrev pub Stays : State → State → Type 0
-Stays s t = (t.transport ≡ s.transport) × (t.local ≡ s.local) × (t.remote ≡ s.remote) × (t.config ≡ s.config)
-
-pub Stays-KeepsAllEdits : KeepsAllEdits Stays
-Stays-KeepsAllEdits = all-phase-edits ⊤ Stays (record {
-  edits = record {
-    rest = λ s t. (refl, refl, refl, refl);
-    trans = λ s t u first later. (later.0 ∙ first.0, later.1 ∙ first.1, later.2 ∙ first.2, later.3 ∙ first.3);
-    sends = λ now s. (refl, refl, refl, refl);
-    begins = λ now s new. (refl, refl, refl, refl);
-    ends = λ s. (refl, refl, refl, refl);
-  };
-  holds = λ message d s e. (refl, refl, refl, refl);
-  counts = λ s held few. (refl, refl, refl, refl);
-  resets = λ accepted s. (refl, refl, refl, refl);
-  allocates = λ addresses s e. (refl, refl, refl, refl);
-})
-
-stays-kept : IsKept Stays
-stays-kept = edits-IsKept Stays Stays-KeepsAllEdits (λ s streams. (refl, refl, refl, refl))
-
--- ---- what is queued and listed
-
--- this opened the data connections: of a local address, a peer and a connection ID
-module _ (Opened : SocketAddr → SocketAddr → ℕ → Type 0) (first : State) where
-  -- the queued packets go out, and each listed CONNECTION_BIND is for a connection that was opened
-  pub record GoesWell (s : State) : Type 0 where
-    pub stays : Stays first s
-    pub queue : (q : Queued) → Has q s.queue → GoesOut Opened first q
-    pub binds : (l : Listing) → Has l s.listed → (local peer : SocketAddr) (id : ℕ) → l.purpose ≡ ForBind local peer id → Opened local peer id
-
-  still-goes : (Asked : SocketAddr → SocketAddr → ℕ → Type 0) (s : State) → Stays first s → ((local peer : SocketAddr) (id : ℕ) → Asked local peer id → Opened local peer id)
-      → (q : Queued) → GoesOut Asked s q → GoesOut Opened first q
-  still-goes Asked s stays opened q (transport, to, from) = (transport ∙ stays.0, to ∙ stays.2, by from)
-    where
-      by : ((q.packet.from ≡ s.local) × IsNoBind q.packet.payload) ⊎ ((peer : SocketAddr) × (id : ℕ) × Asked q.packet.from peer id × IsBindOf q.packet.from peer id s q.packet.payload)
-          → ((q.packet.from ≡ first.local) × IsNoBind q.packet.payload) ⊎ ((peer : SocketAddr) × (id : ℕ) × Opened q.packet.from peer id × IsBindOf q.packet.from peer id first q.packet.payload)
-      by (inl (control, other)) = inl (control ∙ stays.1, other)
-      by (inr (peer, id, asked, (t, number, config, text))) = inr (peer, id, opened q.packet.from peer id asked, (t, number, config ∙ stays.3, text))
-
-  goes-on : (Asked : SocketAddr → SocketAddr → ℕ → Type 0) (s t : State) → GoesWell s → Stays s t → Queues Asked s t
-      → ((local peer : SocketAddr) (id : ℕ) → Asked local peer id → Opened local peer id)
-      → ((l : Listing) → Has l t.listed → (local peer : SocketAddr) (id : ℕ) → l.purpose ≡ ForBind local peer id → Opened local peer id) → GoesWell t
-  goes-on Asked s t well stays queues opened binds = record {
-    stays = (stays.0 ∙ well.stays.0, stays.1 ∙ well.stays.1, stays.2 ∙ well.stays.2, stays.3 ∙ well.stays.3);
-    queue = λ q there. elim (queues q there) [ inl old ↦ well.queue q old | inr new ↦ still-goes Asked s well.stays opened q new ];
-    binds = binds;
-  }
-
-  abbrev Keeps : State → State → Type 0
-  Keeps s t = GoesWell s → GoesWell t
-
-  -- a request that was listed before is for a connection that was opened
-  was-opened : (s : State) → GoesWell s → (local peer : SocketAddr) (id : ℕ) → IsListedBind s local peer id → Opened local peer id
-  was-opened s well local peer id (l, there, is) = well.binds l there local peer id is
-
-  -- so is what is listed in answer to a message
-  answers-opened : (message : List ℕ) (s : State) → GoesWell s → (l : Listing) → IsAnswer message s l.purpose → (local peer : SocketAddr) (id : ℕ) → l.purpose ≡ ForBind local peer id
-      → Opened local peer id
-  answers-opened message s well l answers local peer id is =
-      let (x, there, e) = purposes-listed (id_of message) s l.purpose (contains-has l.purpose (purposes_of (id_of message) s) answers) in
-      well.binds x there local peer id (e ∙ is)
-
-  kept : IsKept Keeps
-  kept = record {
-    same = λ s well. well;
-    trans = λ s t u before after well. after (before well);
-    streams = λ s streams well. record { stays = well.stays; queue = well.queue; binds = well.binds };
-    message = λ message now s well. goes-on (IsListedBind s) s (message_step message now s).1 well (stays-kept.message message now s) (message-queues message now s) (was-opened s well)
-        (λ l there local peer id is. elim ((message-moves message now s).1 l there) [
-          | inl old ↦ well.binds l old local peer id is
-          | inr (purpose, answers, also, made) ↦ answers-opened message s well l also local peer id is
-        ]);
-    binds = λ at message now s well. goes-on (IsListedBind s) s (bind_step at message now s) well (stays-kept.binds at message now s) (bind-queues message now s at) (was-opened s well)
-        (λ l there local peer id is. elim ((bind-moves at message now s).1 l there) [
-          | inl old ↦ well.binds l old local peer id is
-          | inr (purpose, answers, also, made) ↦ answers-opened message s well l also local peer id is
-        ]);
-    gone = λ at s well. goes-on (IsListedBind s) s (connection_gone at s) well (stays-kept.gone at s)
-        (on_test (Queues (IsListedBind s) s) (is_some (connection_at at s)) _ s (λ q there. inl there) (λ q there. inl there)) (was-opened s well)
-        (λ l there local peer id is. elim ((gone-settles at s).1 l there) [ inl old ↦ well.binds l old local peer id is | inr none ↦ absurd none ]);
-  }
-
-  other-goes : (call : Call) (s : State) → (TakesInput call → ⊥) → ((local peer : SocketAddr) (id : ℕ) → OpensFor call s local peer id → Opened local peer id) → Keeps s (state_after call s)
-  other-goes call s other opens well =
-      goes-on (OpensFor call s) s (state_after call s) well (calls-walk Stays Stays-KeepsAllEdits (λ s streams. (refl, refl, refl, refl)) call s) (call-queues call s other) opens
-      (λ l there local peer id is. elim (listed-opens local peer id call s l other is there) [ inl old ↦ well.binds l old local peer id is | inr new ↦ opens local peer id new ])
-
-  call-goes : (call : Call) (s : State) → ((local peer : SocketAddr) (id : ℕ) → OpensFor call s local peer id → Opened local peer id) → Keeps s (state_after call s)
-  call-goes (Recv packet now) s opens = recv-kept Keeps kept packet.transport packet.from packet.to packet.payload now s
-  call-goes (PollRecv now) s opens = poll_recv-kept Keeps kept now s
-  call-goes call s opens = other-goes call s (λ takes. takes) opens
-
-  run-goes : (calls : List Call) (s : State)
-      → ((earlier : List Call) (call : Call) (later : List Call) → calls ≡ earlier ++ call ∷ later → (local peer : SocketAddr) (id : ℕ)
-      → OpensFor call (state_after_all s earlier) local peer id → Opened local peer id)
-      → GoesWell s → GoesWell (state_after_all s calls)
-  run-goes [] s opens well = well
-  run-goes (call ∷ calls) s opens well =
-      run-goes calls (state_after call s) (λ earlier x later e. opens (call ∷ earlier) x later (ap (λ (l : List Call). call ∷ l) e))
-      (call-goes call s (opens [] call calls refl) well)
-
--- ---- a packet that is sent
-
-module _ (calls : List Call) (first s : State) (now : ℕ) (well : GoesWell (λ local peer id. WasOpened local peer id calls first) first s) (asks : AsksServer s) where
+-- a request again, what is queued, the first ALLOCATE, a refresh, or what keeps the path to the server alive
+module _ (P : Transmit (List ℕ) → Type 0) (now : ℕ) (s : State)
+    (again : (x : Transaction) → Has x s.transactions → is_due (timers_of s.config) s.transport now x ≡ true → P (record { payload = x.request; transport = s.transport; from = s.local; to = x.to }))
+    (queued : (q : Queued) → Has q s.queue → P q.packet) (begins : P (to_server s s.local (first_allocate s (fresh_id s))))
+    (renews : (p : Purpose) → s.phase ≡ Allocated → next_refresh now s ≡ Some p → P (to_server s s.local (request_for s p (fresh_id s))))
+    (alive : P (to_server s s.local (binding_indication (fresh_id s)))) where
   abbrev Sends : Option (Transmit (List ℕ)) × State → Type 0
-  Sends x = (packet : Transmit (List ℕ)) → x.0 ≡ Some packet → GoesToServer packet calls first
+  Sends x = (packet : Transmit (List ℕ)) → x.0 ≡ Some packet → P packet
 
-  some-sends : (x : Transmit (List ℕ)) → GoesToServer x calls first → (packet : Transmit (List ℕ)) → Some x ≡ Some packet → GoesToServer packet calls first
-  some-sends x goes packet e = let same : x ≡ packet = cc in subst (λ (p : Transmit (List ℕ)). GoesToServer p calls first) same goes
+  some-sends : (x : Transmit (List ℕ)) → P x → (packet : Transmit (List ℕ)) → Some x ≡ Some packet → P packet
+  some-sends x is packet e = let same : x ≡ packet = cc in subst P same is
 
   none-sends : (t : State) → Sends (None, t)
   none-sends t packet e = cc
 
-  -- from the control address
-  control-goes : (text : List ℕ) → IsNoBind text → GoesToServer (record { payload = text; transport = s.transport; from = s.local; to = s.remote }) calls first
-  control-goes text other = record { transport = well.stays.0; to = well.stays.2; from = inl (well.stays.1, λ tcp. other) }
-
-  queued-goes : (q : Queued) → Has q s.queue → GoesToServer q.packet calls first
-  queued-goes q there = let (transport, to, from) = well.queue q there in record { transport = transport; to = to; from = by from }
-    where
-      by : ((q.packet.from ≡ first.local) × IsNoBind q.packet.payload)
-          ⊎ ((peer : SocketAddr) × (id : ℕ) × WasOpened q.packet.from peer id calls first × IsBindOf q.packet.from peer id first q.packet.payload)
-          → ((q.packet.from ≡ first.local) × (first.transport ≡ Tcp → IsNoBind q.packet.payload))
-          ⊎ ((peer : SocketAddr) × (id : ℕ) × WasOpened q.packet.from peer id calls first × IsBindOf q.packet.from peer id first q.packet.payload)
-      by (inl (control, other)) = inl (control, λ tcp. other)
-      by (inr bind) = inr bind
-
-  -- over TCP nothing is retransmitted
-  never-due : (transport : TransportType) (x : Transaction) → is_due (timers_of s.config) transport now x ≡ true → transport ≡ Tcp → ⊥
-  never-due Tcp x e tcp = grind arith
-  never-due Udp x e tcp = cc
-
-  resent-goes : (x : Transaction) → due (agent_of s) now ≡ Some x → GoesToServer (record { payload = x.request; transport = s.transport; from = s.local; to = x.to }) calls first
-  resent-goes x e =
-      let (there, is) = has-found (is_due (timers_of s.config) s.transport now) x s.transactions e in
-      record {
-        transport = well.stays.0;
-        to = has-all (IsToServer s) x s.transactions asks there ∙ well.stays.2;
-        from = inl (well.stays.1, λ tcp. absurd (never-due s.transport x is (well.stays.0 ∙ tcp)));
-      }
-
-  reply-goes : Sends (reply_step s)
-  reply-goes packet e =
+  reply-sends : Sends (reply_step s)
+  reply-sends packet e =
       let (q, there, reads) = has-filter_map reply_in packet s.queue (first-has packet (filter_map reply_in s.queue) e) in
-      subst (λ (p : Transmit (List ℕ)). GoesToServer p calls first) (by q.is_request q reads) (queued-goes q there)
+      subst P (by q.is_request q reads) (queued q there)
     where
       by : (b : Bool) (q : Queued) → cond b None (Some q.packet) ≡ Some packet → q.packet ≡ packet
       by true q e = cc
       by false q e = cc
 
-  idle-goes : (p : Phase) → Sends (idle_step p now s)
-  idle-goes New =
-      let u = record s { phase = Requesting } in
-      some-sends (record { payload = first_allocate u (fresh_id u); transport = s.transport; from = s.local; to = s.remote }) (control-goes (first_allocate u (fresh_id u)) (first-else u (fresh_id u)))
-  idle-goes Allocated =
-      by_found Sends _ (slice_get (flat_map (refreshes_in now s) (allocations s)) 0) (keepalive_step now s) refreshed
-      (by_test Sends (list_any (λ time. nat_le time now) (keepalive_times s)) _ (None, s)
-      (λ e. some-sends _ (control-goes (binding_indication (fresh_id s)) (indication-else (fresh_id s)))) (λ e. none-sends s))
-    where
-      refreshed : (p : Purpose) → slice_get (flat_map (refreshes_in now s) (allocations s)) 0 ≡ Some p → Sends (sent_at_once (request_for s p (fresh_id s)) p now s)
-      refreshed p e =
-          let other = refreshes-else now s p (first-has p (flat_map (refreshes_in now s) (allocations s)) e) in
-          some-sends _ (control-goes (request_for s p (fresh_id s)) (request-else s p (fresh_id s) other))
-  idle-goes p = none-sends s
+  idle-sends : (p : Phase) → s.phase ≡ p → Sends (idle_step p now s)
+  idle-sends New phase = some-sends _ begins
+  idle-sends Allocated phase =
+      by_found Sends _ (next_refresh now s) (keepalive_step now s) (λ p e. some-sends _ (renews p phase e))
+      (by_test Sends (list_any (λ time. nat_le time now) (keepalive_times s)) _ (None, s) (λ e. some-sends _ alive) (λ e. none-sends s))
+  idle-sends p phase = none-sends s
 
-  transmit-goes : Sends (transmit_step now s)
-  transmit-goes =
-      by_found Sends _ (due (agent_of s) now) _ (λ x e. some-sends _ (resent-goes x e))
-      (by_test Sends (is_paused now s) (reply_step s) (queue_step now s) (λ e. reply-goes)
-      (λ e. by_found Sends _ (next_queued now s) (idle_step s.phase now s) (λ q f. some-sends _ (queued-goes q (first-has q s.queue (queued-first now s q f)))) (idle-goes s.phase)))
+  pub transmit-sends : Sends (transmit_step now s)
+  transmit-sends =
+      by_found Sends _ (due (agent_of s) now) _
+      (λ x e. let (there, is) = has-found (is_due (timers_of s.config) s.transport now) x s.transactions e in some-sends _ (again x there is))
+      (by_test Sends (is_paused now s) (reply_step s) (queue_step now s) (λ e. reply-sends)
+      (λ e. by_found Sends _ (next_queued now s) (idle_step s.phase now s) (λ q f. some-sends _ (queued q (queued-there now s q f).0)) (idle-sends s.phase refl)))
+
+-- ---- a packet that is sent
+
+-- the caller opened the data connection that is to be bound
+abbrev pub IsOpenedIn : List Call → State → Purpose → Type 0
+IsOpenedIn calls first (ForBind local peer id) = WasOpened local peer id calls first
+IsOpenedIn calls first p = ⊤
+
+-- one of the calls named what is requested, and opened the data connection
+abbrev pub IsAskedIn : List Call → State → Purpose → Type 0
+IsAskedIn calls first p = IsNamed p calls × IsOpenedIn calls first p
+
+pub own-asked : (calls : List Call) (first : State) (p : Purpose) → IsOwnRequest p → IsAskedIn calls first p
+own-asked calls first (ForBind local peer id) own = absurd own
+own-asked calls first p own = (inl own, tt)
+
+-- who requests a channel names the IP address, too
+names-both : (call : Call) (number : ℕ) (peer : SocketAddr) → Names call (ForChannel number peer) → Names call (ForPermission (socket_ip peer))
+names-both (BindChannel transport other now) number peer names = ap socket_ip names
+names-both (AllocatedTcpSocket id tuple other (Some at) now) number peer names = absurd names
+names-both (AllocatedTcpSocket id tuple other None now) number peer names = absurd names
+names-both call number peer names = absurd names
+
+pub brings-asked : (calls : List Call) (first : State) (number : ℕ) (peer : SocketAddr) → IsAskedIn calls first (ForChannel number peer) → IsAskedIn calls first (ForPermission (socket_ip peer))
+brings-asked calls first number peer (inl none, opened) = absurd none
+brings-asked calls first number peer (inr (call, there, names), opened) = (inr (call, there, names-both call number peer names), tt)
+
+module _ (transport : TransportType) (local remote : SocketAddr) (config : Config) (seed : List ℕ) where
+  abbrev pub first : State
+  first = initial transport local remote config seed
+
+  abbrev pub Asks : List Call → Purpose → Type 0
+  Asks calls = IsAskedIn calls first
+
+  abbrev pub Hears : List Call → Challenge → Type 0
+  Hears calls d = WasHeard d calls first
+
+  -- after these calls
+  pub goes : (calls : List Call) → GoesOn (Asks calls) (Hears calls) first (own-asked calls first) (brings-asked calls first) (state_after_all first calls)
+  goes calls = run-goes (Asks calls) (Hears calls) first (own-asked calls first) (brings-asked calls first) calls first named heard begun
+    where
+      opened : (before : List Call) (call : Call) (later : List Call) → calls ≡ before ++ call ∷ later → (p : Purpose) → IsOpenedIf call (state_after_all first before) p → IsOpenedIn calls first p
+      opened before call later e (ForBind at peer id) (tuple, now, is, accepted) = record {
+        earlier = before;
+        tuple = tuple;
+        now = now;
+        later = later;
+        split = e ∙ ap (λ (c : Call). before ++ c ∷ later) is;
+        accepted = accepted;
+      }
+      opened before call later e p if = tt
+
+      named : (before : List Call) (call : Call) (later : List Call) → calls ≡ before ++ call ∷ later → (p : Purpose) → Names call p → IsOpenedIf call (state_after_all first before) p → Asks calls p
+      named before call later e p names if = (
+        inr (call, subst (λ (l : List Call). Contains l call) (sym e) (Contains-append_right before (call ∷ later) call (has-contains call (call ∷ later) (inl refl))), names),
+        opened before call later e p if,
+      )
+
+      heard : (one : Input) → Contains (handled_in first calls) one → (d : Challenge) → challenge_in one.before one.bytes ≡ Some d → Hears calls d
+      heard one among d is = (one, among, is)
+
+      begun : GoesOn (Asks calls) (Hears calls) first (own-asked calls first) (brings-asked calls first) first
+      begun = record {
+        well = record {
+          stays = (refl, refl, refl, refl);
+          holds = tt;
+          queue = λ q none. absurd none;
+          outstanding = λ x none. absurd none;
+          listed = λ l none. absurd none;
+          held = λ d e. cc;
+        };
+        granted = λ g none. absurd none;
+        have = initial-HasGrantsAsked transport local remote config seed;
+        distinct = initial-numbers transport local remote config seed;
+      }
+
+  -- what is refreshed then was asked
+  pub refresh-asked : (calls : List Call) (now : ℕ) (p : Purpose) → next_refresh now (state_after_all first calls) ≡ Some p → Asks calls p
+  refresh-asked calls now p e =
+      next-asked (Asks calls) (Hears calls) first (own-asked calls first) (brings-asked calls first) now (state_after_all first calls) (goes calls).granted p e
+
+  module _ (calls : List Call) (now : ℕ) where
+    abbrev s : State
+    s = state_after_all first calls
+
+    abbrev well : GoesWell (Asks calls) (Hears calls) first (own-asked calls first) (brings-asked calls first) s
+    well = (goes calls).well
+
+    -- from the control address
+    control-goes : (text : List ℕ) → IsNoBind text → GoesToServer (to_server s s.local text) calls first
+    control-goes text other = record { transport = well.stays.0; to = well.stays.2; from = inl (well.stays.1, λ tcp. other) }
+
+    -- what is signed for the control connection binds none
+    control-else : (text : List ℕ) → IsControlText (Asks calls) (Hears calls) first text → IsNoBind text
+    control-else text (inl (p, other, asked, requests)) = requests-else (Hears calls) first.config p text other requests
+    control-else text (inr responds) = responds-else (Hears calls) first.config text responds
+
+    queued-goes : (q : Queued) → Has q s.queue → GoesToServer q.packet calls first
+    queued-goes q there = let (transport, to, from) = well.queue q there in record { transport = transport; to = to; from = by from }
+      where
+        by : ((q.packet.from ≡ first.local) × IsControlText (Asks calls) (Hears calls) first q.packet.payload) ⊎ IsBindText (Asks calls) (Hears calls) first q.packet.from q.packet.payload
+            → ((q.packet.from ≡ first.local) × (first.transport ≡ Tcp → IsNoBind q.packet.payload)) ⊎ IsBindFrom q.packet.from q.packet.payload calls first
+        by (inl (control, text)) = inl (control, λ tcp. control-else q.packet.payload text)
+        by (inr (peer, id, (named, opened), (u, (config, held), (number, e)))) = inr (peer, id, opened, (u, number, config, e))
+
+    -- over TCP nothing is retransmitted
+    never-due : (transport : TransportType) (x : Transaction) → is_due (timers_of s.config) transport now x ≡ true → transport ≡ Tcp → ⊥
+    never-due Tcp x e tcp = grind arith
+    never-due Udp x e tcp = cc
+
+    resent-goes : AsksServer s → (x : Transaction) → Has x s.transactions → is_due (timers_of s.config) s.transport now x ≡ true
+        → GoesToServer (record { payload = x.request; transport = s.transport; from = s.local; to = x.to }) calls first
+    resent-goes asks x there is = record {
+      transport = well.stays.0;
+      to = has-all (IsToServer s) x s.transactions asks there ∙ well.stays.2;
+      from = inl (well.stays.1, λ tcp. absurd (never-due s.transport x is (well.stays.0 ∙ tcp)));
+    }
+
+    transmit-goes : AsksServer s → (packet : Transmit (List ℕ)) → next_transmit now s ≡ Some packet → GoesToServer packet calls first
+    transmit-goes asks =
+        transmit-sends (λ packet. GoesToServer packet calls first) now s (resent-goes asks) queued-goes (control-goes (first_allocate s (fresh_id s)) (first-else s (fresh_id s)))
+        (λ p phase e. control-goes (request_for s p (fresh_id s))
+        (request-else s p (fresh_id s) (refreshes-else now s p (first-has p (flat_map (refreshes_in now s) (allocations s)) e))))
+        (control-goes (binding_indication (fresh_id s)) (indication-else (fresh_id s)))
 
 -- ---- data for a peer
 
@@ -263,31 +257,16 @@ module _ (first s : State) (stays : Stays first s) (peer : SocketAddr) (bytes : 
 
 -- ---- a run
 
-module _ (transport : TransportType) (local remote : SocketAddr) (config : Config) (seed : List ℕ) (calls : List Call) where
-  abbrev first : State
-  first = initial transport local remote config seed
+pub run-sends : HoldsOfRuns SendsToServer
+run-sends transport local remote config seed calls earlier now later packet e f =
+    transmit-goes transport local remote config seed earlier now
+    (holds-found AsksServer leaves-AsksServer initial-AsksServer transport local remote config seed earlier) packet f
 
-  -- after some calls, of which one opened each data connection that is to be bound
-  goes : (earlier : List Call) → GoesWell (λ at peer id. WasOpened at peer id earlier first) first (state_after_all first earlier)
-  goes earlier =
-      run-goes (λ at peer id. WasOpened at peer id earlier first) first earlier first
-      (λ before call later e at peer id (tuple, now, is, accepted). record {
-        earlier = before;
-        tuple = tuple;
-        now = now;
-        later = later;
-        split = e ∙ ap (λ (c : Call). before ++ c ∷ later) is;
-        accepted = accepted;
-      })
-      (record { stays = (refl, refl, refl, refl); queue = λ q none. absurd none; binds = λ l none. absurd none })
+pub run-gives : HoldsOfRuns SendsToPeers
+run-gives transport local remote config seed calls earlier relays peer bytes now later packet e f =
+    let first = initial transport local remote config seed in
+    send-gives first (state_after_all first earlier) (goes transport local remote config seed earlier).well.stays peer bytes now relays packet f
 
-  pub run-sends : SendsToServer first calls
-  run-sends earlier now later packet e f =
-      transmit-goes earlier first (state_after_all first earlier) now (goes earlier)
-      (holds-found AsksServer leaves-AsksServer initial-AsksServer transport local remote config seed earlier) packet f
-
-  pub run-gives : SendsToPeers first calls
-  run-gives earlier relays peer bytes now later packet e f = send-gives first (state_after_all first earlier) (goes earlier).stays peer bytes now relays packet f
-
-  pub run-goes_out : PacketsGoOut first calls
-  run-goes_out = (run-sends, run-gives)
+pub run-goes_out : HoldsOfRuns PacketsGoOut
+run-goes_out transport local remote config seed calls =
+    (run-sends transport local remote config seed calls, run-gives transport local remote config seed calls)

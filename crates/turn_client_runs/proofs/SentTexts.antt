@@ -1,7 +1,7 @@
--- Which messages bind no data connection, by their first two bytes.
-use Rattle.turn_client_laws.proofs.Common.{◌≡◌, ◌+◌, ◌*◌, ℕ, Bool, true, List, [], ◌∷◌, Option, Some, None, refl, ◌≢◌, find, ⊤}
-use Rattle.turn_client_laws.proofs.Machine.{Challenge, Addition, additions_for, signed_by, with_additions, type_of, header_of, with_attribute, MessageClass, Error, Indication, Request, Success, State}
-use Rattle.turn_client_laws.proofs.Machine.{Purpose, ForAllocation, ForBind, ForChannel, ForConnect, ForPermission, ForRefresh, delete_text, accepted_reply, allocate_method, asked_attributes}
+-- What a client signs, and which messages bind no data connection, by their first two bytes.
+use Rattle.turn_client_laws.proofs.Common.{◌≡◌, ◌⊎◌, ◌+◌, ◌*◌, ℕ, Bool, true, List, [], ◌∷◌, Option, Some, None, refl, inl, inr, ◌≢◌, find, ⊤}
+use Rattle.turn_client_laws.proofs.Machine.{Challenge, Addition, additions_for, signed_by, with_additions, type_of, header_of, with_attribute, MessageClass, Error, Indication, Request, Success, Config}
+use Rattle.turn_client_laws.proofs.Machine.{State, Has, Purpose, ForAllocation, ForBind, ForChannel, ForConnect, ForPermission, ForRefresh, delete_text, accepted_reply, allocate_method, asked_attributes}
 use Rattle.turn_client_laws.proofs.Machine.{asked_lifetime, attribute, binding_indication, binding_method, channel_bind_method, connect_method, connection_attempt_method, connection_bind_method}
 use Rattle.turn_client_laws.proofs.Machine.{create_permission_method, dont_fragment_kind, error_kind, family_attributes, first_allocate, fresh_id, lifetime_attribute, message_of, refresh_method}
 use Rattle.turn_client_laws.proofs.Machine.{refused_reply, request_for, signed, transport_attribute, first_or, is_allocate_or_connect, is_channel_bind, is_create_permission, is_refresh, retried}
@@ -9,12 +9,14 @@ use Rattle.turn_client_laws.proofs.Machine.{has-found}
 use Rattle.turn_auth.specs.Credentials.{Credentials}
 use Rattle.turn_auth.specs.declared.feature.Feature.{Feature}
 use Rattle.turn_stun.specs.MessageType.{class_of, method_of, type_number}
+use Rattle.turn_stun.specs.Refusal.{Refusal}
 use Rattle.turn_stun.specs.Values.{error_code_value}
+use Rattle.turn_client_runs.specs.Leaving.{refusals}
 use Rattle.turn_client_runs.specs.Sent.{IsNoBind}
 
 -- ---- the first two bytes stay
 
-abbrev Leads : ℕ → ℕ → List ℕ → Type 0
+abbrev pub Leads : ℕ → ℕ → List ℕ → Type 0
 Leads a b text = (rest : List ℕ) × (text ≡ a ∷ b ∷ rest)
 
 module _ (a b : ℕ) where
@@ -22,7 +24,7 @@ module _ (a b : ℕ) where
   unfolding with_attribute
   attribute-leads kind value text (rest, e) = rw e (_, refl)
 
-  additions-leads : (all : List Addition) (text : List ℕ) → Leads a b text → Leads a b (with_additions all text)
+  pub additions-leads : (all : List Addition) (text : List ℕ) → Leads a b text → Leads a b (with_additions all text)
   additions-leads [] text leads = leads
   additions-leads (x ∷ later) text leads = additions-leads later (with_attribute x.kind x.value text) (attribute-leads x.kind x.value text leads)
 
@@ -81,6 +83,30 @@ pub refused-else : (code : ℕ) (reason : List ℕ) (s : State) (id : ℕ) → I
 refused-else code reason s id =
     let attributes = attribute error_kind (error_code_value (record { code = code; reason = reason })) ∷ [] in
     signed-else connection_attempt_method Error 1 28 (λ e. cc) (λ n. (_, refl)) attributes id s
+
+-- ---- what a client signs, which has this configuration and holds such a challenge
+
+module _ (Taken : Challenge → Type 0) (config : Config) where
+  abbrev pub IsUnder : State → Type 0
+  IsUnder u = (u.config ≡ config) × ((d : Challenge) × (u.held ≡ Some d) × Taken d)
+
+  -- the text requests this
+  abbrev pub Requests : Purpose → List ℕ → Type 0
+  Requests p text = (u : State) × IsUnder u × ((id : ℕ) × (text ≡ request_for u p id))
+
+  -- it responds to a request of the server
+  abbrev pub Says : State → ℕ → List ℕ → Type 0
+  Says u id text = (text ≡ accepted_reply u id) ⊎ ((r : Refusal) × Has r refusals × (text ≡ refused_reply r.code r.reason u id))
+
+  abbrev pub Responds : List ℕ → Type 0
+  Responds text = (u : State) × IsUnder u × ((id : ℕ) × Says u id text)
+
+  pub requests-else : (p : Purpose) (text : List ℕ) → IsElse p → Requests p text → IsNoBind text
+  requests-else p text other (u, under, (id, e)) = rw e (request-else u p id other)
+
+  pub responds-else : (text : List ℕ) → Responds text → IsNoBind text
+  responds-else text (u, under, (id, inl e)) = rw e (accepted-else u id)
+  responds-else text (u, under, (id, inr (r, listed, e))) = rw e (refused-else r.code r.reason u id)
 
 -- ---- what is requested again over the control connection
 

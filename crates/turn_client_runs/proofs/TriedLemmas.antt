@@ -5,12 +5,12 @@ use Rattle.turn_client_laws.proofs.Common.{ltb-true, lt-ltb, le-leb}
 use Rattle.turn_client_laws.proofs.Machine.{resends_of, due, is_due, is_timed_out, timed_out_transaction, transaction_timeout, resent, sent_again, waiting_from, waits_begun, first_sent}
 use Rattle.turn_client_laws.proofs.Machine.{Transaction, Transmit, timers_of, State, agent_of, initial, Call, PollRecv, PollTransmit, Recv, Phase, New, Requesting, Authenticating, Allocated}
 use Rattle.turn_client_laws.proofs.Machine.{Closed, Purpose, ForAllocation, Queued, is_paused, keepalive_times, allocations, fresh_id, first_allocate, request_for, state_after}
-use Rattle.turn_client_laws.proofs.Machine.{state_after_all, idle_step, keepalive_step, next_queued, queue_step, front_sent, id_in_header, refreshes_in, reply_step, sent_at_once}
+use Rattle.turn_client_laws.proofs.Machine.{state_after_all, idle_step, keepalive_step, next_queued, queue_step, front_sent, settled, id_in_header, refreshes_in, reply_step, sent_at_once}
 use Rattle.turn_client_laws.proofs.Machine.{transmit_step, next_transmit, Has, has-append, has-found, answer_step, closed, expired_at, has_reply, is_listed_for_allocation, next_offer}
 use Rattle.turn_client_laws.proofs.Machine.{poll_step, timed_out_step, timed_step, transaction_ended, TurnPollRet}
 use Rattle.turn_agent.specs.Agent.{without_transaction}
 use Rattle.turn_client_laws.proofs.AfterExpiryLemmas.{expired_at-shrinks}
-use Rattle.turn_client_laws.proofs.Laws.{AsksFor, IsMadeAs, IsRequestOf, IsDoneBy, answer-by, by_found, by_test, has-mapped, has-contains, contains-has, requests-made}
+use Rattle.turn_client_laws.proofs.Laws.{AsksFor, IsMadeAs, IsRequestOf, IsDoneBy, answer-by, by_found, by_test, has-mapped, has-contains, contains-has, requests-made, settled-has}
 use Rattle.turn_client_laws.proofs.MoveLemmas.{none-found}
 use Rattle.turn_client_laws.specs.LawsRequests as L
 use Rattle.turn_client_runs.specs.Holds.{HoldsOfRuns}
@@ -113,27 +113,29 @@ module _ (first : State) where
                   subst (λ (w : Transaction). IsTried w.resends w.id first then) (sym same) (still z.resends z.id calls (PollTransmit now) (all z is))
 
       -- the waits of a queued request begin
-      begun-tries : (id : ℕ) (y : Transaction) → Has y (waits_begun id now was.transactions) → IsTried y.resends y.id first then
-      begun-tries id y there = by (has-mapped (λ (z : Transaction). cond (eqb z.id id) (waiting_from now z) z) y was.transactions there)
+      begun-tries : (id : ℕ) (y : Transaction) → Has y (waits_begun id now (settled was).transactions) → IsTried y.resends y.id first then
+      begun-tries id y there = by (has-mapped (λ (z : Transaction). cond (eqb z.id id) (waiting_from now z) z) y (settled was).transactions there)
         where
-          by : (z : Transaction) × Has z was.transactions × (y ≡ cond (eqb z.id id) (waiting_from now z) z) → IsTried y.resends y.id first then
+          by : (z : Transaction) × Has z (settled was).transactions × (y ≡ cond (eqb z.id id) (waiting_from now z) z) → IsTried y.resends y.id first then
           by (z, is, f) = for (eqb z.id id) refl
             where
               before : IsTried z.resends z.id first then
-              before = still z.resends z.id calls (PollTransmit now) (all z is)
+              before = still z.resends z.id calls (PollTransmit now) (all z (settled-has was z is))
 
               for : (b : Bool) → eqb z.id id ≡ b → IsTried y.resends y.id first then
               for true g = let same : y ≡ waiting_from now z = rw g at f in subst (λ (w : Transaction). IsTried w.resends w.id first then) (sym same) before
               for false g = let same : y ≡ z = rw g at f in subst (λ (w : Transaction). IsTried w.resends w.id first then) (sym same) before
 
-      front-tries : (q : Queued) → Tries (Some q.packet, front_sent now q was)
+      front-tries : (q : Queued) → Tries (Some q.packet, front_sent now q (settled was))
       front-tries q = by (was.config.timed_from_send && q.is_request) (id_in_header q.packet.payload)
         where
-          by : (b : Bool) (o : Option ℕ) (y : Transaction) → Has y (cond b (option_map_or (λ id. waits_begun id now was.transactions) o was.transactions) was.transactions)
-              → IsTried y.resends y.id first then
+          left : List Transaction
+          left = (settled was).transactions
+
+          by : (b : Bool) (o : Option ℕ) (y : Transaction) → Has y (cond b (option_map_or (λ id. waits_begun id now left) o left) left) → IsTried y.resends y.id first then
           by true (Some id) y there = begun-tries id y there
-          by true None y there = still y.resends y.id calls (PollTransmit now) (all y there)
-          by false o y there = still y.resends y.id calls (PollTransmit now) (all y there)
+          by true None y there = old-tries y (settled-has was y there)
+          by false o y there = old-tries y (settled-has was y there)
 
       made-tries : (text : List ℕ) (purpose : Purpose) (u : State) → u.transactions ≡ was.transactions → Tries (sent_at_once text purpose now u)
       made-tries text purpose u same y there = by (has-append y u.transactions (first_sent (fresh_id u) u.remote now text ∷ []) there)

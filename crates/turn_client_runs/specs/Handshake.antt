@@ -1,5 +1,5 @@
 -- A client whose server answers its first requests (RFC 8489, section 9.2; RFC 8656, section 7).
-use Rattle.std.specs.Prelude.{◌≡◌, ◌≢◌, ◌⊎◌, ℕ, ◌+◌, ◌<◌, ◌≤◌, min, false, true, List, [], ◌∷◌, Some, IsSome, ⊤}
+use Rattle.std.specs.Prelude.{◌≡◌, ◌≢◌, ◌⊎◌, ℕ, ◌+◌, ◌<◌, ◌≤◌, max, min, true, if◌then◌else◌, List, [], ◌∷◌, Some, IsSome, ⊤}
 use Rattle.std.specs.declared.net.socket_addr.SocketAddr.{SocketAddr}
 use Rattle.turn_stun.specs.Message.{id_of}
 use Rattle.turn_stun.specs.declared.message.header.MessageClass.TheVariants.{Success}
@@ -51,16 +51,22 @@ RunsHandshake delay before s [] = ⊤
 RunsHandshake delay before s (call ∷ calls) =
     IsInTime delay before (time_of before call) s × IsStep call s × RunsHandshake delay (time_of before call) (state_after call s) calls
 
--- A new client over UDP, whose server answers both of its requests within the delay, has an allocation at any time
--- that is later than twice that delay. The delay includes the pause after the first request, so this is said of a client whose
--- requests wait from when they are made.
+-- How long after the first request the second one begins to wait, at the latest: it does so as it is made, which is when the
+-- challenge is there. If requests wait from their first copies on, it does so as it is given out, once the pause after the first
+-- one is over, too.
+abbrev pub second_within : ℕ → Config → ℕ
+second_within delay config = if config.timed_from_send then max delay config.request_cadence else delay
+
+-- A new client over UDP, whose server answers both of its requests within the delay, has an allocation at any time that is
+-- later than both waits: than twice the delay, or, if requests wait from their first copies on and the pause is longer than the
+-- delay, than the pause and the delay.
 abbrev pub HandshakeSucceeds : Type 0
 HandshakeSucceeds =
     (local remote : SocketAddr) (config : Config) (seed : List ℕ) (delay start now : ℕ) (calls : List Call)
     → let first = initial Udp local remote config seed in let last = state_after_all first calls in
-    1 ≤ config.max_stale_nonces → config.timed_from_send ≡ false → delay < wait_at (timers_of config) Udp 0
+    1 ≤ config.max_stale_nonces → delay < wait_at (timers_of config) Udp 0
     → RunsHandshake delay start first calls → IsInTime delay (time_of_all start calls) now last
-    → start + delay + delay < now
+    → start + second_within delay config + delay < now
     → last.phase ≡ Allocated
 
 -- The state just after is one in which no grant will be lost, if the second request had left the queue, the
@@ -70,7 +76,7 @@ HandshakeEndsSteadily =
     (local remote : SocketAddr) (config : Config) (seed : List ℕ) (delay start now : ℕ) (calls : List Call)
     (packet : Transmit (List ℕ)) (count slots extras lifetime : ℕ)
     → let first = initial Udp local remote config seed in let last = state_after_all first calls in let next = state_after (Recv packet now) last in
-    1 ≤ config.max_stale_nonces → config.timed_from_send ≡ false → delay < wait_at (timers_of config) Udp 0
+    1 ≤ config.max_stale_nonces → delay < wait_at (timers_of config) Udp 0
     → RunsHandshake delay start first calls → IsInTime delay (time_of_all start calls) now last
     → IsAllocating packet last → last.queue ≡ [] → lifetime_in packet.payload ≡ Some lifetime → 600 ≤ lifetime
     → HasRoom count slots extras config.request_cadence delay (min config.refresh_ahead (seconds 150)) → HoldsAtMost count slots next

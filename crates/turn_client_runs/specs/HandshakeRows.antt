@@ -10,6 +10,7 @@ use Rattle.turn_auth.specs.declared.integrity.IntegrityAlgorithm.TheVariants.{Sh
 use Rattle.turn_agent.specs.declared.transaction.Transaction.{Transaction}
 use Rattle.turn_client_api.specs.Config.{Config, default_max_stale_nonces, default_refresh_ahead, default_request_cadence}
 use Rattle.turn_client_api.specs.State.{State, initial}
+use Rattle.turn_client_api.specs.declared.state.Phase.TheVariants.{Authenticating}
 use Rattle.turn_client_api.specs.declared.call.Call.{Call}
 use Rattle.turn_client_api.specs.declared.call.Call.TheVariants.{PollTransmit, Recv}
 use Rattle.turn_client_api.specs.Effect.{new_allocation}
@@ -18,6 +19,8 @@ use Rattle.turn_client_api.specs.Steps.{state_after, state_after_all}
 use Rattle.turn_client_laws.specs.LawsRows.{relayed_v4}
 use Rattle.turn_client_runs.specs.Handshake.{IsAllocating, RunsHandshake}
 use Rattle.turn_client_runs.specs.Lasting.{IsSteady}
+use Rattle.turn_client_runs.specs.LastingBursts.{timed}
+use Rattle.turn_client_runs.specs.OnTime.{IsInTime}
 use Rattle.turn_client_runs.specs.Server.{from_server}
 
 -- ---- the server
@@ -82,3 +85,27 @@ HandshakeIsWorked =
     → let first = new_client local remote config seed in
     let last = state_after_all first (handshake_calls first) in
     EndsSteadily first last (allocation_packet last)
+
+-- ---- a client whose requests are timed from their first copies
+
+-- the challenge comes after 20 ms, and the second request is sent at the end of the pause after the first one
+abbrev pub paused_calls : State → List Call
+paused_calls s =
+    let sent = state_after (PollTransmit 0) s in
+    PollTransmit 0 ∷ Recv (from_server sent (challenge_text (awaited sent.transactions))) 20_000_000 ∷ PollTransmit 50_000_000 ∷ []
+
+-- The handshake keeps its premises with a delay of 20 ms, also until 70 ms, when the success to the second request comes, and gives
+-- the allocation. Until then the client has none: at no earlier time than that of the pause and the delay.
+pub record WaitsForThePause (first : State) (last : State) (packet : Transmit (List ℕ)) : Type 0 where
+  pub runs : RunsHandshake 20_000_000 0 first (paused_calls first)
+  pub in_time : IsInTime 20_000_000 50_000_000 70_000_000 last
+  pub waits : last.phase ≡ Authenticating
+  pub allocates : IsAllocating packet last
+  pub granted : (state_after (Recv packet 70_000_000) last).grants ≡ new_allocation 600 70_000_000 relayed_v4 ∷ []
+
+abbrev pub PausedHandshakeIsWorked : Type 0
+PausedHandshakeIsWorked =
+    (local remote : SocketAddr) (config : Config) (seed : List ℕ)
+    → let first = timed (new_client local remote config seed) in
+    let last = state_after_all first (paused_calls first) in
+    WaitsForThePause first last (allocation_packet last)

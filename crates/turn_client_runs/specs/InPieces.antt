@@ -1,5 +1,6 @@
 -- No grant is lost either if the server requires another nonce within a stream that is cut.
-use Rattle.std.specs.Prelude.{◌≡◌, ◌⊎◌, ℕ, ◌+◌, ◌==◌, ◌<◌, ◌≤◌, nat_lt, Bool, true, not, ◌&&◌, if◌then◌else◌, List, [], ◌∷◌, IsSome, length, ⊤}
+use Rattle.std.specs.Prelude.{◌≡◌, ◌⊎◌, ℕ, ◌+◌, ◌==◌, ◌<◌, ◌≤◌, nat_lt, Bool, true, not, ◌&&◌, if◌then◌else◌, List, [], ◌∷◌, IsSome}
+use Rattle.std.specs.Prelude.{⊤}
 use Rattle.std.specs.List.{list_any}
 use Rattle.turn_stun.specs.Message.{id_of}
 use Rattle.turn_stun.specs.declared.message.header.MessageClass.TheVariants.{Error}
@@ -14,7 +15,7 @@ use Rattle.turn_client_api.specs.declared.call.Call.TheVariants.{PollRecv, Recv}
 use Rattle.turn_client_laws.specs.Handled.{Input, handled, processed}
 use Rattle.turn_client_laws.specs.LawsHandled.{IsOverControl}
 use Rattle.turn_client_runs.specs.History.{History, IsSeldom, no_history, with_call}
-use Rattle.turn_client_runs.specs.Lasting.{HoldsAtMost, IsQuiet}
+use Rattle.turn_client_runs.specs.Lasting.{HoldsAtMost, IsQuiet, queue_ahead}
 use Rattle.turn_client_runs.specs.Late.{AreAnswered, IsMild, RunsBehind, RunsGranted, since_next}
 use Rattle.turn_client_runs.specs.OnTime.{time_of}
 
@@ -65,12 +66,12 @@ with_all call time s past = with_call call time s past
 
 -- ---- the run
 
--- Each input is a success, noise or a challenge, or changes nothing. After it no more packets are queued, and no more were extra,
--- than may be.
+-- Each input is a success, noise or a challenge, or changes nothing. After it no more packets leave before refreshes, and no more
+-- were extra, than may be.
 abbrev pub AreCalm : ℕ → ℕ → List Input → History → Type 0
 AreCalm slots extras [] past = ⊤
 AreCalm slots extras (one ∷ later) past =
-    (IsMild one ⊎ IsAsking one past) × (length (processed one).1.queue ≤ slots)
+    (IsMild one ⊎ IsAsking one past) × (queue_ahead (processed one).1 ≤ slots)
     × IsSeldom extras one.before.config.refresh_ahead one.time (with_input one past) × AreCalm slots extras later (with_input one past)
 
 -- what comes is so, however the stream is cut, and any other call is as in `RunsBehind`

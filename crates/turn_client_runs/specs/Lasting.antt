@@ -1,5 +1,6 @@
 -- No grant is lost while the server answers and the caller sends what is due (RFC 8656, sections 8, 9 and 12).
-use Rattle.std.specs.Prelude.{◌≡◌, ◌⊎◌, ℕ, ◌+◌, ◌*◌, ◌/◌, ◌^◌, ◌<◌, ◌≤◌, min, true, false, List, [], ◌∷◌, ◌++◌, length}
+use Rattle.std.specs.Prelude.{◌≡◌, ◌⊎◌, ℕ, ◌+◌, ◌*◌, ◌/◌, ◌^◌, ◌<◌, ◌≤◌, min, true, false, if◌then◌else◌, List, [], ◌∷◌, ◌++◌}
+use Rattle.std.specs.Prelude.{length}
 use Rattle.std.specs.Prelude.{IfSome, IsSome, IsSomeAnd, All, ⊤}
 use Rattle.std.specs.List.{Contains}
 use Rattle.turn_stun.specs.Message.{id_of}
@@ -77,15 +78,20 @@ HasStill g now s = (h : Grant) × Contains s.grants h × (with_expiry 0 h ≡ as
 
 -- ---- where it begins
 
--- If so many grants are to be refreshed at one time, so many requests are queued before them, and so many packets are
+-- If so many grants are to be refreshed at one time, so many requests leave before them, and so many packets are
 -- extra, one packet leaves in each pause. The last one leaves this long after that time, and its reply comes within the
 -- delay: that is before the grant expires, which is refreshed so long ahead.
 abbrev pub HasRoom : ℕ → ℕ → ℕ → ℕ → ℕ → ℕ → Type 0
 HasRoom count slots extras cadence delay ahead = (count + slots + extras) * cadence + delay < ahead
 
--- the client has no more grants, and no more queued packets
+-- How many packets leave before a refresh that is due: those that are queued, or none if requests wait from their first copies
+-- on. So a burst needs no room then, however many requests are queued.
+abbrev pub queue_ahead : State → ℕ
+queue_ahead s = if s.config.timed_from_send then 0 else length s.queue
+
+-- the client has no more grants, and no more packets that leave before a refresh
 abbrev pub HoldsAtMost : ℕ → ℕ → State → Type 0
-HoldsAtMost count slots s = (length s.grants ≤ count) × (length s.queue ≤ slots)
+HoldsAtMost count slots s = (length s.grants ≤ count) × (queue_ahead s ≤ slots)
 
 -- A client that has allocations, permissions and channels in force, awaits nothing and has nothing to send. No
 -- refresh is late, there is room for all of them, and a reply that comes within the delay comes before its
@@ -165,8 +171,8 @@ pub record AreInTime (delay before now : ℕ) (past : History) (s : State) : Typ
   pub on_time : IsOnTime before now s
   pub answered : All (λ x. now ≤ past.made x.id + delay) s.transactions
 
--- The caller is on time, the server answers within the delay, and the client never has more grants and queued
--- packets than these, nor more extra packets in the time ahead.
+-- The caller is on time, the server answers within the delay, and the client never has more grants than these and packets
+-- that leave before refreshes, nor more extra packets in the time ahead.
 abbrev pub RunsSteadily : ℕ → ℕ → ℕ → ℕ → ℕ → History → State → List Call → Type 0
 RunsSteadily count slots extras delay before past s [] = ⊤
 RunsSteadily count slots extras delay before past s (call ∷ calls) =

@@ -7,6 +7,7 @@ pub mod Cut
 pub mod CutRelayRows
 pub mod CutRows
 pub mod Deliveries
+pub mod Drains
 pub mod EndRows
 pub mod Ends
 pub mod Events
@@ -26,6 +27,8 @@ pub mod LastingRows
 pub mod LastingRuns
 pub mod Late
 pub mod LateRows
+pub mod Leaving
+pub mod LeavingRows
 pub mod Offers
 pub mod OnTime
 pub mod Paced

@@ -1,5 +1,5 @@
 -- When requests leave that are timed from their first copies (RFC 8489, section 6.2.1).
-use Rattle.std.specs.Prelude.{◌≡◌, ◌⊎◌, ◌^◌, ◌≤◌, ℕ, true, List, ◌∷◌, ◌++◌, All, Some, filter_map}
+use Rattle.std.specs.Prelude.{◌≡◌, ◌⊎◌, ◌^◌, ◌<◌, ◌≤◌, ℕ, true, List, ◌∷◌, ◌++◌, All, Some, filter_map}
 use Rattle.std.specs.List.{Contains}
 use Rattle.turn_stun.specs.Message.{id_of}
 use Rattle.turn_stun.specs.declared.transport.Transmit.{Transmit}
@@ -7,10 +7,23 @@ use Rattle.turn_agent.specs.Agent.{timed_out_transaction}
 use Rattle.turn_agent.specs.declared.transaction.Transaction.{Transaction}
 use Rattle.turn_client_api.specs.State.{State, agent_of, later_by}
 use Rattle.turn_client_api.specs.Steps.{state_after, state_after_all}
-use Rattle.turn_client_api.specs.Transmit.{next_transmit, reply_in}
+use Rattle.turn_client_api.specs.Calls.{delete_text}
+use Rattle.turn_client_api.specs.Queue.{id_in_header, is_to_send}
+use Rattle.turn_client_api.specs.Requests.{first_allocate, fresh_id, request_for}
+use Rattle.turn_client_api.specs.Transmit.{idle_step, next_transmit, reply_in}
+use Rattle.turn_client_api.specs.declared.grant.Purpose.{Purpose}
+use Rattle.turn_client_api.specs.declared.state.Queued.{Queued}
 use Rattle.turn_client_api.specs.declared.call.Call.{Call}
 use Rattle.turn_client_api.specs.declared.call.Call.TheVariants.{Poll, PollTransmit}
 use Rattle.turn_client_runs.specs.OnTime.{time_of}
+
+-- The bytes of each request that a client makes hold its transaction ID in their header (section 5), by which the client tells
+-- whether a queued one has ended. No message carries an ID of 2^96 or more.
+abbrev pub RequestsAreNamed : Type 0
+RequestsAreNamed =
+    (s : State) (id : ℕ) → id < 2 ^ 96
+    → ((purpose : Purpose) → id_in_header (request_for s purpose id) ≡ Some id)
+    × (id_in_header (first_allocate s id) ≡ Some id) × (fresh_id s ≡ id → id_in_header (delete_text s) ≡ Some id)
 
 -- the packet is a queued reply to a request of the server, which waits for no pause
 abbrev pub IsReply : Transmit (List ℕ) → State → Type 0
@@ -47,12 +60,19 @@ IsApart now first calls =
     next_transmit then s ≡ Some other → (IsReply other s → ⊥)
     → later_by first.config.request_cadence then ≤ now
 
--- Each packet of `poll_transmit` is a reply, or a copy of a request of which one was given, or the pause before it is over.
+-- The packet is a queued request that awaits its response, and something is left that it was made for; or the client makes it
+-- now.
+abbrev pub IsToLeave : ℕ → Transmit (List ℕ) → State → Type 0
+IsToLeave now packet s =
+    ((q : Queued) × Contains s.queue q × (q.packet ≡ packet) × (is_to_send s q ≡ true)) ⊎ ((idle_step s.phase now s).0 ≡ Some packet)
+
+-- Each packet of `poll_transmit` is a reply, or a copy of a request of which one was given; or the pause before it is over, and
+-- it is no request that has ended.
 abbrev pub RequestsLeaveInTurn : State → List Call → Type 0
 RequestsLeaveInTurn first calls =
     (earlier : List Call) (now : ℕ) (later : List Call) (packet : Transmit (List ℕ)) → calls ≡ earlier ++ PollTransmit now ∷ later → now ≤ 2 ^ 62
     → let s = state_after_all first earlier in
-    next_transmit now s ≡ Some packet → IsReply packet s ⊎ (IsSentAgain packet first earlier ⊎ IsApart now first earlier)
+    next_transmit now s ≡ Some packet → IsReply packet s ⊎ (IsSentAgain packet first earlier ⊎ (IsApart now first earlier × IsToLeave now packet s))
 
 -- No request times out of which no copy was given.
 abbrev pub TimesOutOnceSent : State → List Call → Type 0

@@ -3,7 +3,7 @@
 ghost use Rattle.turn_client_runs.specs.InPieces.{PacketsAreEnough};
 ghost use Rattle.turn_client_runs.specs.Late.{GrantedAreAnswered, OnTimeIsLateByNone};
 ghost use Rattle.turn_client_runs.specs.LastingRuns.{GrantsLastBehind};
-ghost use Rattle.turn_client_runs.specs.LastingBursts.{BurstsCostNothing, QueuedAreNotExtra};
+ghost use Rattle.turn_client_runs.specs.LastingBursts.{BurstsCostNothing, QueuedAreNotExtra, QueuesNeedNoRoom, QueuesNeedRoom};
 ghost use Rattle.turn_client_runs.specs.LastingPeers.{HasRoomAt5Ms, HasRoomLateAt5Ms, PeersLast, PeersLastFarAhead};
 ghost use Rattle.turn_client_runs.specs.CutRelayRows.{AskedRelayStaysUp, CutRelayStaysUp};
 ghost use Rattle.turn_client_runs.specs.LastingRows.{RelayStaysUp};
@@ -22,7 +22,8 @@ ghost use Rattle.turn_client_runs.specs.Lasting.{DatagramsAreMessages, GrantsLas
 ///
 /// Assumed of the caller: it takes each packet as soon as the client has one, as one does that takes all packets and calls
 /// again at the time that `poll` returned (`runs_miss_no_deadline`). It requests permissions and channels, lets them go and
-/// keeps them again, sends data, and never has more than `count` grants and `slots` queued packets. Of the server and the
+/// keeps them again, sends data, and never has more than `count` grants and `slots` queued packets; if requests are timed from
+/// their first copies, any number is queued, and `slots` is 0 (`a_burst_costs_no_grant`). Of the server and the
 /// network: a request, whether it was sent or waits in the queue, is answered within `delay` of when it was first made by
 /// a signed success, however often it is lost and retransmitted, and however often the server requires another nonce for
 /// it, which is no more in a row than the client answers (`max_stale_nonces`; RFC 8489, section 9.2.5). The delay is less
@@ -89,13 +90,16 @@ pub fn thousands_of_peers_stay_up()
     ensures last_far_ahead { PeersLastFarAhead }
 {}
 
-/// If requests are timed from their first copies, the room that `grants_last_while_the_server_answers` needs has no place for the copies of
-/// a burst that have not left: none of them is retransmitted, so none is an extra packet (`queued`). A client so set over UDP, with
-/// an allocation, ten permissions and a cadence of 5 ms, keeps each of them that it does not let go in every run in which up to 3,000
-/// permissions more are requested, also all at one time, which takes 15 s, each request is answered within 20 s, and at most
-/// 1,000 packets are extra; the other premises are those of that law (`lasts`). Timed from their calls, those that have not left
-/// after 500 ms leave as retransmissions, and are extra packets.
+/// If requests are timed from their first copies, the room that `grants_last_while_the_server_answers` needs has no place for a
+/// burst: neither for requests that are queued, since refreshes leave before them, so `slots` may be 0 (`no_room`); nor for their
+/// copies that have not left, since none of them is retransmitted, so none is an extra packet (`queued`). A client so set over UDP,
+/// with an allocation, ten permissions and a cadence of 5 ms, keeps each of them that it does not let go in every run in which up to
+/// 3,000 permissions more are requested, also all at one time, which takes 15 s, each request is answered within 35 s of its call,
+/// and at most 1,000 packets are extra; the other premises are those of that law (`lasts`). Timed from their calls, `slots` counts
+/// each that is queued (`room`), and those that have not left after 500 ms leave as retransmissions, and are extra packets.
 pub fn a_burst_costs_no_grant()
     ensures queued { QueuedAreNotExtra }
+    ensures no_room { QueuesNeedNoRoom }
+    ensures room { QueuesNeedRoom }
     ensures lasts { BurstsCostNothing }
 {}

@@ -25,6 +25,7 @@ mod ends;
 mod granted;
 mod handshake;
 mod lasting;
+mod leaving;
 mod numbers;
 mod offers;
 mod order;
@@ -57,10 +58,13 @@ pub use lasting::{
     a_burst_costs_no_grant, a_relay_stays_up, grants_last_while_the_server_answers,
     thousands_of_peers_stay_up,
 };
+pub use leaving::{messages_are_worked, only_own_messages_leave};
 pub use numbers::numbers_stay_distinct;
 pub use offers::bound_connections_have_their_offers;
 pub use order::{inputs_are_worked, inputs_follow_each_other};
-pub use paced::{first_copies_are_paced, first_copies_are_worked};
+pub use paced::{
+    first_copies_are_paced, first_copies_are_worked, queues_drain, requests_name_themselves,
+};
 pub use peers::only_permitted_is_received;
 pub use promises::runs_keep_their_promises;
 pub use replies::replies_count_once_in_runs;

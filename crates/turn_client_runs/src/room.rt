@@ -10,7 +10,7 @@ use std::time::Duration;
 /// (`grants_last_while_the_server_answers`, `behind`).
 #[derive(Clone, Copy, Debug)]
 pub struct Load {
-    /// How many packets are queued at most.
+    /// How many packets are queued at most; 0 if requests are timed from their first copies, since refreshes leave before them.
     pub slots: u32,
     /// How many packets are extra within the time ahead, at most: retransmissions, and requests that are made again.
     pub extras: u32,

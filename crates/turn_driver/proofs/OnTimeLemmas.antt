@@ -5,6 +5,7 @@ use Rattle.turn_client_laws.proofs.Machine.{Transmit, due, Transaction, State, a
 use Rattle.turn_client_laws.proofs.Machine.{Allocation, Permission, Channel, Connect, Offer, Connection, Purpose, Relay, allocations, family_of, AddressFamily, is_paused, keepalive_times}
 use Rattle.turn_client_laws.proofs.Machine.{refresh_time, state_after, state_after_all, idle_step, is_due_in, is_refresh_due, keepalive_step, next_refresh, next_transmit, queue_step, refresh_purpose}
 use Rattle.turn_client_laws.proofs.Machine.{is_allocated, next_queued, refresh_step, refreshes_in, refreshes_of_rank, reply_step}
+use Rattle.turn_client_laws.proofs.Laws.{first_left}
 use Rattle.turn_client_runs.specs.OnTime.{IsOnTime, time_of, time_of_all}
 use Rattle.turn_driver.specs.Next.{IsRestful}
 use Rattle.turn_driver.specs.OnTime.{AllOnTime, BeginsInTime, IsLoop, Iteration, LoopsAreOnTime, WakesOnTime, calls_in, calls_of}
@@ -62,7 +63,7 @@ module _ (now : ℕ) (s : State) (events : List TurnEvent) where
 
   front-same : next_queued now other ≡ next_queued now s
   front-same =
-      ap (λ (o : Option Purpose). cond {A = Option Queued} (s.config.timed_from_send && is_allocated s.phase && is_some o) None (slice_get s.queue 0)) due-same
+      ap (λ (o : Option Purpose). cond {A = Option Queued} (s.config.timed_from_send && is_allocated s.phase && is_some o) None (first_left s s.queue)) due-same
 
   queue-same : (queue_step now other).0 ≡ (queue_step now s).0
   queue-same = by (next_queued now s) refl

@@ -2,7 +2,7 @@
 use Rattle.turn_client_laws.proofs.Common.{◌≡◌, ◌∙◌, ℕ, ◌+◌, ◌-◌, ◌^◌, ◌<◌, ◌≤◌, Bool, true, false, cond, eqb, List, [], ◌∷◌, Option, Some, None, ap, arith, filter_map, inl, inr, length, min, refl}
 use Rattle.turn_client_laws.proofs.Common.{slice_get, sym, nat_le, cons_option, list_any, option_map_or, and_parts, eq-eqb, lt-ltb, ltb-true}
 use Rattle.turn_client_laws.proofs.Machine.{TransportType, Transmit, due, is_due, resent, Timers, resends_of, Transaction, timers_of, is_paused, keepalive_times, pause_end, binding_indication}
-use Rattle.turn_client_laws.proofs.Machine.{fresh_id, id_used, request_for, to_server, State, agent_of, idle_step, keepalive_step, next_queued, next_refresh, queue_step, front_sent, refresh_step, reply_in, reply_step, sent}
+use Rattle.turn_client_laws.proofs.Machine.{fresh_id, id_used, request_for, to_server, State, agent_of, idle_step, keepalive_step, next_queued, next_refresh, queue_step, front_sent, settled, refresh_step, reply_in, reply_step, sent}
 use Rattle.turn_client_laws.proofs.Machine.{sent_at_once, transmit_step, without_first_reply, Purpose, Phase, New, Requesting, Authenticating, Allocated, Closed, Queued, Has, has-found}
 use Rattle.turn_client_laws.proofs.Laws.{weight}
 use Rattle.turn_driver.proofs.RestWeights.{GetsOn, left_to_do, may_send, resends_left}
@@ -88,7 +88,7 @@ idle-SentNow Closed now s packet e = cc
 queue-SentNow : (now : ℕ) (s : State) → SentNow now s (queue_step now s)
 queue-SentNow now s = by (next_queued now s)
   where
-    by : (o : Option Queued) → SentNow now s (option_map_or (λ q. (Some q.packet, front_sent now q s)) o (idle_step s.phase now s))
+    by : (o : Option Queued) → SentNow now s (option_map_or (λ q. (Some q.packet, front_sent now q (settled s))) o (idle_step s.phase now s))
     by None packet e = idle-SentNow s.phase now s packet e
     by (Some q) packet e = (refl, refl, refl)
 

@@ -1,16 +1,17 @@
 -- A client that sends a packet has less left to do, if no request times out when it is sent.
-use Rattle.turn_client_laws.proofs.Common.{◌≡◌, ◌∙◌, ℕ, ◌^◌, ◌<◌, ◌≤◌, max, Bool, true, false, cond, not, ◌&&◌, leb, List, [], ◌∷◌, Option, Some, None, arith, inl, inr, length, refl, subst, sym}
+use Rattle.turn_client_laws.proofs.Common.{◌≡◌, ◌∙◌, ℕ, ◌^◌, ◌<◌, ◌≤◌, ◌-◌, max, Bool, true, false, cond, fold, not, ◌&&◌, leb, List, [], ◌∷◌, Option, Some, None, arith, inl, inr, length, length-drop, refl, subst, sym, take}
 use Rattle.turn_client_laws.proofs.Common.{IfSome, cases_lt, drop, map, nat_le, option_to_list, slice_get, list_any, option_map_or, and_parts, cases_Bool, eq-eqb, leb-true, cond_some, none-some}
 use Rattle.turn_client_laws.proofs.Machine.{Transmit, due, first_sent, is_due, resent, transaction_timeout, wait_at, Transaction, timers_of, has_allocation_in_use, is_paused, is_refreshable}
 use Rattle.turn_client_laws.proofs.Machine.{keepalive_times, pause_end, refresh_time, refresh_time_by_kind, family_of, has_request, is_for, asked_lifetime, binding_indication, fresh_id, id_used}
-use Rattle.turn_client_laws.proofs.Machine.{request_for, to_server, State, agent_of, later_by, idle_step, is_refresh_due, keepalive_step, next_queued, next_refresh, begun_by, front_sent, id_in_header, waits_begun, queue_step, refresh_purpose, refresh_step}
+use Rattle.turn_client_laws.proofs.Machine.{request_for, to_server, State, agent_of, later_by, idle_step, is_refresh_due, keepalive_step, next_queued, next_refresh, begun_by, ended_count, front_sent, id_in_header, settled, waits_begun, without_request, queue_step, refresh_purpose, refresh_step}
 use Rattle.turn_client_laws.proofs.Machine.{reply_step, sent, sent_at_once, transmit_step, Grant, Allocation, Channel, Permission, Active, Purpose, ForChannel, ForPermission, ForRefresh, Phase, New}
 use Rattle.turn_client_laws.proofs.Machine.{Requesting, Authenticating, Allocated, Closed, Queued, Has, has-found}
-use Rattle.turn_client_laws.proofs.Laws.{queued-first, same_ip-same, same_family-self}
+use Rattle.turn_client_laws.proofs.Laws.{first_left, queued-left, settled-first, same_ip-same, same_family-self}
+use Rattle.turn_agent.specs.Agent.{without_transaction}
 use Rattle.std.specs.Prelude.{option_and_then}
 use Rattle.turn_client_runs.proofs.LastingTransmits.{IsNext, next-of}
 use Rattle.turn_driver.proofs.RestSends.{reply-shorter}
-use Rattle.turn_driver.proofs.RestWaits.{asked-fewer, is_over, left_to_await, begun-le, may_keep, not-over, over, over-append, resent-fewer}
+use Rattle.turn_driver.proofs.RestWaits.{asked-fewer, is_over, left_to_await, begun-le, may_keep, not-over, over, over-append, over-filter, resent-fewer}
 use Rattle.turn_driver.proofs.RestWeights.{GetsOn}
 
 -- ---- what keeps the path alive
@@ -121,8 +122,8 @@ module _ (now : ℕ) (s : State) (range : now ≤ 2 ^ 62) (waits : (place : ℕ)
   idles Closed e packet f = cc
 
   -- the first copy of a queued request is given out, and its waits may begin
-  queues : (q : Queued) → slice_get s.queue 0 ≡ Some q → (xs : List Transaction) → over (timers_of s.config) s.transport now xs ≤ over (timers_of s.config) s.transport now s.transactions
-      → GetsOn (left_to_await now) s (sent now (record s { queue = drop 1 s.queue; transactions = xs }))
+  queues : (q : Queued) → first_left s s.queue ≡ Some q → (xs : List Transaction) → over (timers_of s.config) s.transport now xs ≤ over (timers_of s.config) s.transport now s.transactions
+      → GetsOn (left_to_await now) s (sent now (record s { queue = drop 1 (settled s).queue; transactions = xs }))
   queues q e xs fewer = elim (cases_lt (over (timers_of s.config) s.transport now xs) (over (timers_of s.config) s.transport now s.transactions)) [
     | inl less ↦ inr (refl, inr (refl, inl less))
     | inr most ↦
@@ -133,24 +134,40 @@ module _ (now : ℕ) (s : State) (range : now ≤ 2 ^ 62) (waits : (place : ℕ)
               inr (refl, inr (refl, inr (same, inr (refl, inr (refl, inl (omega (arith, one, zero)))))))
           | inr f ↦
               let none : may_keep now s ≡ 0 = rw f refl in
-              let less = shorter s.queue e in
-              inr (refl, inr (refl, inr (same, inr (refl, inr (refl, inr (zero ∙ sym none, inl (omega (arith, less))))))))
+              inr (refl, inr (refl, inr (same, inr (refl, inr (refl, inr (zero ∙ sym none, inl (omega (arith, shorter))))))))
         ]
   ]
     where
-      zero : may_keep now (sent now (record s { queue = drop 1 s.queue; transactions = xs })) ≡ 0
-      zero = silent now (sent now (record s { queue = drop 1 s.queue; transactions = xs })) refl some range
+      zero : may_keep now (sent now (record s { queue = drop 1 (settled s).queue; transactions = xs })) ≡ 0
+      zero = silent now (sent now (record s { queue = drop 1 (settled s).queue; transactions = xs })) refl some range
 
-      shorter : (queue : List Queued) → slice_get queue 0 ≡ Some q → length (drop 1 queue) < length queue
-      shorter [] f = cc
-      shorter (r ∷ queue) f = omega arith
+      shorter : length (drop 1 (settled s).queue) < length s.queue
+      shorter =
+          let (others, is) = settled-first s q e in
+          let all : length (q ∷ others) ≡ length s.queue - ended_count s =
+          subst (λ (queue : List Queued). length queue ≡ length s.queue - ended_count s) is (length-drop (ended_count s) s.queue) in
+          rw is (omega (arith, all))
 
-  begins : (q : Queued) → over (timers_of s.config) s.transport now (begun_by now q s) ≤ over (timers_of s.config) s.transport now s.transactions
-  begins q = by (s.config.timed_from_send && q.is_request) (id_in_header q.packet.payload)
+  ends : (queue : List Queued) (xs : List Transaction) → over (timers_of s.config) s.transport now (fold without_request xs queue) ≤ over (timers_of s.config) s.transport now xs
+  ends [] xs = omega arith
+  ends (q ∷ queue) xs =
+      let later = ends queue (without_request xs q) in
+      let one = by (id_in_header q.packet.payload) in
+      omega (arith, later, one)
     where
-      by : (b : Bool) (o : Option ℕ) → over (timers_of s.config) s.transport now (cond b (option_map_or (λ id. waits_begun id now s.transactions) o s.transactions) s.transactions)
-          ≤ over (timers_of s.config) s.transport now s.transactions
-      by true (Some id) = begun-le (timers_of s.config) s.transport now range waits id s.transactions
+      by : (o : Option ℕ) → over (timers_of s.config) s.transport now (option_map_or (λ id. without_transaction id xs) o xs) ≤ over (timers_of s.config) s.transport now xs
+      by None = omega arith
+      by (Some id) = over-filter (timers_of s.config) s.transport now _ xs
+
+  begins : (q : Queued) → over (timers_of s.config) s.transport now (begun_by now q (settled s)) ≤ over (timers_of s.config) s.transport now s.transactions
+  begins q = let rest = ends (take (ended_count s) s.queue) s.transactions in let first = by (s.config.timed_from_send && q.is_request) (id_in_header q.packet.payload) in omega (arith, first, rest)
+    where
+      left : List Transaction
+      left = (settled s).transactions
+
+      by : (b : Bool) (o : Option ℕ) → over (timers_of s.config) s.transport now (cond b (option_map_or (λ id. waits_begun id now left) o left) left)
+          ≤ over (timers_of s.config) s.transport now left
+      by true (Some id) = begun-le (timers_of s.config) s.transport now range waits id left
       by true None = omega arith
       by false o = omega arith
 
@@ -158,9 +175,9 @@ module _ (now : ℕ) (s : State) (range : now ≤ 2 ^ 62) (waits : (place : ℕ)
   transmit-awaits = by (due (agent_of s) now) refl
     where
       queued : (o : Option Queued) → next_queued now s ≡ o
-          → Sends (option_map_or (λ q. (Some q.packet, front_sent now q s)) o (idle_step s.phase now s))
+          → Sends (option_map_or (λ q. (Some q.packet, front_sent now q (settled s))) o (idle_step s.phase now s))
       queued None e packet f = idles s.phase refl packet f
-      queued (Some q) e packet f = queues q (queued-first now s q e) (begun_by now q s) (begins q)
+      queued (Some q) e packet f = queues q (queued-left now s q e) (begun_by now q (settled s)) (begins q)
 
       paused : (b : Bool) → Sends (cond b (reply_step s) (queue_step now s))
       paused true = replies

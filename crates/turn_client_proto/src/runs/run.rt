@@ -13,6 +13,7 @@ ghost use Rattle.turn_client_runs.specs.Deliveries.{DataIsReturned};
 ghost use Rattle.turn_client_runs.specs.Ends.{TellsItsEnd};
 ghost use Rattle.turn_client_runs.specs.Events.{EventsHaveCauses};
 ghost use Rattle.turn_client_runs.specs.LastingRuns.{GrantsLastInRuns};
+ghost use Rattle.turn_client_runs.specs.Leaving.{OnlyOwnLeave};
 ghost use Rattle.turn_client_runs.specs.Offers.{BoundAreOffered};
 ghost use Rattle.turn_client_runs.specs.Paced.{RequestsArePaced};
 ghost use Rattle.turn_client_runs.specs.Sends.{ReachablePeersAreSentTo};
@@ -87,11 +88,17 @@ pub struct Replayed {
 ///   client's own. What `send_to` gives is for the peer that was named: over its bound data connection, in a
 ///   ChannelData message of its active channel, or in a Send indication with its address (RFC 8656, sections 11.1
 ///   and 12.5).
+/// - `leaves`: each packet of `poll_transmit` is a message of the client's own, with the attributes of its kind and no others: the
+///   first ALLOCATE, which is not signed; another request for an allocation, a refresh of 1800 s, or a request for what one of the
+///   calls named; a response to the server's request for a data connection; or a Binding indication without attributes. The
+///   others are signed under a challenge that came in (RFC 8489, section 9.2). The password is in the key of the integrity, and
+///   in nothing else: but for that value they are the bytes of a client whose password is empty.
 /// - `paced`: if requests are timed from their first copies (`set_requests_timed_from_send`), each packet of `poll_transmit` is a
 ///   reply to a request of the server, or retransmits an outstanding request of which a copy was given, or the pause
 ///   (`request_cadence`) after each other packet but replies is over, unless a call after that one was made at an earlier time. So no
-///   first copy leaves within the pause, nor as a retransmission. And no request times out of which no copy was given (RFC
-///   8489, section 6.2.1).
+///   first copy leaves within the pause, nor as a retransmission. A queued request leaves only while it awaits its response, and
+///   something is left that it was made for; a REFRESH, while there is an allocation. And no request times out of which no copy
+///   was given (RFC 8489, section 6.2.1).
 /// - `sends`: `send_to` gives such a packet, with exactly these data, while an allocation relays to the peer's IP address over
 ///   the transport, is not marked as expired, and the IP address has an active permission, over TCP also a bound data
 ///   connection. Each refusal is true. It changes no more than the next transaction ID. `have_permission` is true
@@ -165,6 +172,7 @@ pub fn replay(
     ensures processed { CallsProcessInputs (initial transport local remote config seed) calls.now }
     ensures order { InputsFollow (initial transport local remote config seed) calls.now }
     ensures sent { PacketsGoOut (initial transport local remote config seed) calls.now }
+    ensures leaves { OnlyOwnLeave (initial transport local remote config seed) calls.now }
     ensures paced { RequestsArePaced (initial transport local remote config seed) calls.now }
     ensures sends { ReachablePeersAreSentTo (initial transport local remote config seed) calls.now }
     ensures events { EventsHaveCauses (initial transport local remote config seed) calls.now }

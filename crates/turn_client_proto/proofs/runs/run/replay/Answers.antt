@@ -1,5 +1,6 @@
 use Rattle.turn_client_runs.proofs.PromiseLemmas.{run-bound, run-cuts, run-events, run-few, run-granted, run-hears, run-held, run-lasts}
 use Rattle.turn_client_runs.proofs.PromiseLemmas.{run-numbers, run-offers, run-order, run-processed, run-realm, run-replies, run-sent, run-short}
+use Rattle.turn_client_runs.proofs.LeavingRuns.{run-owns}
 use Rattle.turn_client_runs.proofs.PacedLemmas.{run-paced}
 use Rattle.turn_client_runs.proofs.ReportedRuns.{causes-reported-once}
 use Rattle.turn_client_runs.proofs.CalmRuns.{run-calm}
@@ -55,6 +56,9 @@ returns-clause-order c = run-order c.args.transport c.args.local c.args.remote c
 
 pub returns-clause-sent : goal.returns-clause-sent
 returns-clause-sent c = run-sent c.args.transport c.args.local c.args.remote c.args.config c.args.seed c.args.calls.now
+
+pub returns-clause-leaves : goal.returns-clause-leaves
+returns-clause-leaves c = run-owns c.args.transport c.args.local c.args.remote c.args.config c.args.seed c.args.calls.now
 
 pub returns-clause-paced : goal.returns-clause-paced
 returns-clause-paced c = run-paced c.args.transport c.args.local c.args.remote c.args.config c.args.seed c.args.calls.now
