@@ -1,1 +1,15 @@
+pub mod CalmLemmas
+pub mod ClientSleepLemmas
+pub mod DoubtHistory
+pub mod DoubtPolls
+pub mod DoubtSilence
+pub mod DoubtSleepLemmas
+pub mod PathErrors
+pub mod PathFull
+pub mod PathHistory
+pub mod PathPolls
+pub mod PathProbes
+pub mod PathSilence
+pub mod PathSleepLemmas
 pub mod SameKeyLemmas
+pub mod SessionSleepLemmas

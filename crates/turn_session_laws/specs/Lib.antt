@@ -1,6 +1,13 @@
+pub mod CalmLaws
 pub mod CauseLaws
 pub mod DataLaws
+pub mod DoubtEnds
+pub mod DoubtRuns
 pub mod EndLaws
 pub mod EventLaws
+pub mod HealthLaws
 pub mod OutcomeLaws
+pub mod PathEnds
+pub mod PathRuns
 pub mod RequestLaws
+pub mod SleepLaws

@@ -10,20 +10,29 @@
 //!  over_is_last             the end is reported once, and nothing after it
 //!  nothing_follows_the_end  no call changes a session that has ended
 //!  leaves_in_time           a session that leaves has ended once its wait is over
+//!  healthy_paths_stay       a path that carries packets ends no session
+//!  sleeps_through_nothing   who calls again at the time that is told misses nothing
+//!  data_makes_nothing_due   data of peers makes nothing due before the time that is told
 //!  data_is_the_clients      data of peers goes through the client, and changes nothing else
 //! ```
 #![tactic(auto)]
 
+mod calm;
 mod causes;
 mod ends;
 mod events;
+mod health;
 mod outcomes;
 mod payloads;
 mod requests;
+mod sleeps;
 
+pub use calm::{data_makes_nothing_due, probes_in_quick_succession_are_due_earlier};
 pub use causes::ends_have_causes;
 pub use ends::{leaves_in_time, nothing_follows_the_end, over_is_last};
 pub use events::granted_by_event;
+pub use health::{healthy_paths_are_worked, healthy_paths_stay};
 pub use outcomes::one_outcome;
 pub use payloads::data_is_the_clients;
 pub use requests::{few_unsent, refusals_are_accepted};
+pub use sleeps::{sleep_is_worked, sleeps_through_nothing};
