@@ -8,8 +8,12 @@
 #![tactic(auto)]
 
 #[cfg(test)]
+mod course;
+#[cfg(test)]
 mod fixture;
 #[cfg(test)]
 mod plan;
 #[cfg(test)]
 mod tries;
+#[cfg(test)]
+mod wanted;

@@ -157,6 +157,29 @@ fn a_try_has_its_time(rt: HostRuntime) -> Result<(), Fail> {
 }
 
 #[test]
+fn each_task_of_one_life_has_its_time(rt: HostRuntime) -> Result<(), Fail> {
+    let mut plan = Plan::new(rt.alloc(), Reopen::Never, 2, certain(), [7; 32]);
+    polls(&rt, &mut plan, at(0), PlanStep::Again, 0)?;
+    gives(&rt, &mut plan, 1, Work::Credentials, 1);
+    check(&rt, plan.credentials(1, at(1_000)).is_ok(), 2);
+    gives(&rt, &mut plan, 2, Work::Resolve(0), 3);
+    let wait = PlanStep::Wait(Some(at(31_000)));
+    polls(&rt, &mut plan, at(30_999), wait, 4)?;
+    let late = Cause::NotDone(Work::Resolve(0));
+    polls(&rt, &mut plan, at(31_000), PlanStep::Failed(late), 5)?;
+    polls(&rt, &mut plan, at(31_000), PlanStep::Again, 6)?;
+    check(
+        &rt,
+        plan.credentials(3, at(31_000)) == Err(TaskError::NoTask),
+        7,
+    );
+    gives(&rt, &mut plan, 3, Work::Credentials, 8);
+    check(&rt, plan.credentials(3, at(31_000)).is_ok(), 9);
+    gives(&rt, &mut plan, 4, Work::Resolve(1), 10);
+    Ok(())
+}
+
+#[test]
 fn a_response_withdraws_the_other_sockets(rt: HostRuntime) -> Result<(), Fail> {
     let mut plan = resolved(rt.alloc())?;
     polls(&rt, &mut plan, at(1_000), PlanStep::Again, 0)?;

@@ -4,8 +4,6 @@ use crate::fixture::{at, certain, check, refused, v4, v6, wrong};
 use std::process::Abort;
 use std::test::Fail;
 use turn_agent::NumberSource;
-use turn_relay_course::course::{Course, Phase};
-use turn_relay_course::reopen::Reopen;
 use turn_relay_tries::addresses::Addresses;
 use turn_relay_tries::attempts::{AttemptStep, Attempts};
 use turn_relay_tries::backoff::Backoff;
@@ -13,8 +11,6 @@ use turn_relay_tries::causes::Cause;
 use turn_relay_tries::failures::Failures;
 use turn_relay_tries::redirects::Redirects;
 use turn_relay_tries::tries::Tries;
-use turn_session_book::causes::Why;
-use turn_session_book::tags::Tag;
 use turn_stun::transaction::TransactionId;
 
 /// The waits between the beginnings of tries, in milliseconds.
@@ -74,9 +70,22 @@ fn tries_over_a_slow_path_last_longer(rt: HostRuntime) -> Result<(), Fail> {
     let mut tries = Tries::new(certain());
     check(&rt, tries.length == 3_900_000_000, 0);
     for length in LENGTHS {
-        tries.too_slow();
+        tries.too_slow(true);
         check(&rt, tries.length == *length, 1);
     }
+    tries.too_slow(false);
+    check(&rt, tries.length == 3_900_000_000, 2);
+    Ok(())
+}
+
+#[test]
+fn a_slow_path_is_forgotten_after_a_minute(rt: HostRuntime) -> Result<(), Fail> {
+    let mut tries = Tries::new(certain());
+    tries.too_slow(true);
+    tries.ended(certain(), at(1_000), at(60_999));
+    check(&rt, tries.length == 7_800_000_000, 0);
+    tries.ended(certain(), at(1_000), at(61_000));
+    check(&rt, tries.length == 3_900_000_000, 1);
     Ok(())
 }
 
@@ -161,61 +170,5 @@ fn servers_that_name_each_other_are_no_circle(rt: HostRuntime) -> Result<(), Fai
     redirects.ask(v4(2))?;
     check(&rt, !redirects.follow(v4(1)), 1);
     check(&rt, redirects.left == 4, 2);
-    Ok(())
-}
-
-/// A course whose first try has an address requested.
-fn trying(reopen: Reopen, servers: usize) -> Course {
-    let mut course = Course::new(reopen, servers, certain(), [7; 32]);
-    let _begun = course.begin(at(0));
-    course.ready(at(0));
-    course
-}
-
-#[test]
-fn one_forged_packet_ends_nothing(rt: HostRuntime) -> Result<(), Fail> {
-    let mut course = trying(Reopen::Always, 1);
-    course.failed(refused(403), at(100));
-    check(&rt, course.phase == Phase::Resting, 0);
-    check(&rt, course.tries.due == at(500), 1);
-    check(&rt, !course.begin(at(499)), 2);
-    check(&rt, course.begin(at(500)), 3);
-    course.failed(refused(403), at(600));
-    check(&rt, course.phase == Phase::Over(refused(403)), 4);
-    Ok(())
-}
-
-#[test]
-fn one_life_tries_each_server_once(rt: HostRuntime) -> Result<(), Fail> {
-    let mut course = trying(Reopen::Never, 2);
-    course.failed(Cause::NotConnected, at(100));
-    check(&rt, course.server == 1, 0);
-    check(&rt, course.begin(at(500)), 1);
-    course.failed(Cause::NotConnected, at(600));
-    check(&rt, course.phase == Phase::Over(Cause::NotConnected), 2);
-    Ok(())
-}
-
-#[test]
-fn one_life_ends_with_its_address(rt: HostRuntime) -> Result<(), Fail> {
-    let mut course = trying(Reopen::Never, 2);
-    course.opened();
-    course.restored(at(100));
-    check(&rt, course.phase == Phase::Up(at(100)), 0);
-    course.failed(Cause::Life(Why::Unanswered(3)), at(900_000));
-    check(
-        &rt,
-        course.phase == Phase::Over(Cause::Life(Why::Unanswered(3))),
-        1,
-    );
-    Ok(())
-}
-
-#[test]
-fn an_error_of_the_callers_own_is_final(rt: HostRuntime) -> Result<(), Fail> {
-    let mut course = trying(Reopen::Always, 2);
-    course.failed(Cause::OwnError(Tag(9)), at(100));
-    check(&rt, course.phase == Phase::Over(Cause::OwnError(Tag(9))), 0);
-    check(&rt, course.due().is_none(), 1);
     Ok(())
 }

@@ -17,7 +17,8 @@ before-time time due now is before = ap not (lt-ltb now due (grind (arith, is, b
 pub nothing-before : (p : Phase) (c : Course) (time now : ℕ) → due_in p c ≡ Some time → now < time → HasNothing p c.tries.due now
 nothing-before At.Resting c time now is before = record { begins = before-time time c.tries.due now is before; late = refl }
 nothing-before At.Asking c time now is before = record { begins = refl; late = refl }
-nothing-before (At.Trying until) c time now is before = record { begins = refl; late = before-time time until now is before }
+nothing-before (At.Trying (Some until)) c time now is before = record { begins = refl; late = before-time time until now is before }
+nothing-before (At.Trying None) c time now is before = grind (arith, is)
 nothing-before At.Restoring c time now is before = record { begins = refl; late = refl }
 nothing-before (At.Up since) c time now is before = record { begins = refl; late = refl }
 nothing-before (At.Over why) c time now is before = record { begins = refl; late = refl }
@@ -25,7 +26,8 @@ nothing-before (At.Over why) c time now is before = record { begins = refl; late
 pub nothing-ever : (p : Phase) (c : Course) (now : ℕ) → due_in p c ≡ None → HasNothing p c.tries.due now
 nothing-ever At.Resting c now is = grind (arith, is)
 nothing-ever At.Asking c now is = record { begins = refl; late = refl }
-nothing-ever (At.Trying until) c now is = grind (arith, is)
+nothing-ever (At.Trying (Some until)) c now is = grind (arith, is)
+nothing-ever (At.Trying None) c now is = record { begins = refl; late = refl }
 nothing-ever At.Restoring c now is = record { begins = refl; late = refl }
 nothing-ever (At.Up since) c now is = record { begins = refl; late = refl }
 nothing-ever (At.Over why) c now is = record { begins = refl; late = refl }

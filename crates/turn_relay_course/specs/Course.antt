@@ -3,7 +3,7 @@ use Rattle.std.specs.Prelude.{ℕ, ◌+◌, ◌-◌, ◌^◌, ◌||◌, ◌&&◌
 use Rattle.turn_agent.specs.TransactionIds.{behind_id, next_id}
 use Rattle.turn_relay_tries.specs.Failures.{after_success, is_last, no_failures}
 use Rattle.turn_relay_tries.specs.Failures as Failed
-use Rattle.turn_relay_tries.specs.Tries.{after, after_end, after_slow_try, begun, first_tries}
+use Rattle.turn_relay_tries.specs.Tries.{after, after_end, after_slow_try, at_once, begun, first_tries}
 use Rattle.turn_relay_tries.specs.Tries as Trying
 use Rattle.turn_relay_tries.specs.declared.backoff.Backoff.{Backoff}
 use Rattle.turn_relay_tries.specs.declared.causes.Cause.{Cause}
@@ -50,9 +50,17 @@ begun_try now c = record c {
 abbrev pub begin_step : ℕ → Course → Bool × Course
 begin_step now c = if is_due now c then (true, begun_try now c) else (false, c)
 
+-- in one life a try has no end of its own
+abbrev pub end_in : Reopen → ℕ → Course → Option ℕ
+end_in Never now c = None
+end_in Always now c = Some (after now c.tries.length)
+
+abbrev pub try_end : ℕ → Course → Option ℕ
+try_end now c = end_in c.reopen now c
+
 -- the time of a try begins when its credentials are there
 abbrev pub ready_in : Phase → ℕ → Course → Course
-ready_in At.Asking now c = record c { phase = At.Trying (after now c.tries.length) }
+ready_in At.Asking now c = record c { phase = At.Trying (try_end now c) }
 ready_in _ now c = c
 
 abbrev pub after_ready : ℕ → Course → Course
@@ -77,7 +85,7 @@ abbrev pub after_restoring : ℕ → Course → Course
 after_restoring now c = restored_in c.phase now c
 
 abbrev pub late_in : Phase → ℕ → Bool
-late_in (At.Trying until) now = not (nat_lt now until)
+late_in (At.Trying (Some until)) now = not (nat_lt now until)
 late_in _ now = false
 
 abbrev pub is_late : ℕ → Course → Bool
@@ -89,16 +97,24 @@ abbrev pub is_too_slow : Cause → Bool
 is_too_slow (TooSlow time) = true
 is_too_slow _ = false
 
--- a try that was too short for a server that was heard is followed by a longer one
-abbrev pub lengthened : Cause → Course → Tries
-lengthened cause c = if c.is_heard && is_too_slow cause then after_slow_try c.tries else c.tries
+-- a try that was too short for a server that was heard is followed by a longer one, and one that was silent by a short one
+abbrev pub adapted : Cause → Course → Tries
+adapted cause c = if is_too_slow cause then after_slow_try c.is_heard c.tries else c.tries
 
 abbrev pub tries_in : Phase → Cause → ℕ → Course → Tries
 tries_in (At.Up since) cause now c = after_end c.backoff since now c.tries
-tries_in _ cause now c = Trying.after_failure now (lengthened cause c)
+tries_in _ cause now c = Trying.after_failure now (adapted cause c)
+
+abbrev pub tries_again : Cause → ℕ → Course → Tries
+tries_again cause now c = tries_in c.phase cause now c
+
+-- one life goes on to its next server at once
+abbrev pub tries_by : Reopen → Cause → ℕ → Course → Tries
+tries_by Never cause now c = at_once now c.tries
+tries_by Always cause now c = tries_again cause now c
 
 abbrev pub tries_after : Cause → ℕ → Course → Tries
-tries_after cause now c = tries_in c.phase cause now c
+tries_after cause now c = tries_by c.reopen cause now c
 
 abbrev pub is_own_error : Cause → Bool
 is_own_error (OwnError tag) = true
@@ -158,7 +174,7 @@ after_leaving c = left_in c.phase c
 
 abbrev pub due_in : Phase → Course → Option ℕ
 due_in At.Resting c = Some c.tries.due
-due_in (At.Trying until) c = Some until
+due_in (At.Trying until) c = until
 due_in _ c = None
 
 abbrev pub due_time : Course → Option ℕ

@@ -1,5 +1,5 @@
 -- What holds of a course whatever its caller does.
-use Rattle.std.specs.Prelude.{◌≡◌, ℕ, ◌+◌, ◌*◌, ◌-◌, ◌/◌, ◌<◌, ◌≤◌, max, min, Bool, true, false, List, [], ◌∷◌, Some, None}
+use Rattle.std.specs.Prelude.{◌≡◌, ℕ, ◌+◌, ◌*◌, ◌-◌, ◌/◌, ◌^◌, ◌<◌, ◌≤◌, max, min, Bool, true, false, List, [], ◌∷◌, length, Some, None}
 use Rattle.turn_relay_tries.specs.Backoff.{next_wait}
 use Rattle.turn_relay_tries.specs.Tries.{after}
 use Rattle.turn_relay_tries.specs.declared.backoff.Backoff.{Backoff}
@@ -11,7 +11,7 @@ use Rattle.turn_relay_course.specs.declared.course.Course.{Course}
 use Rattle.turn_relay_course.specs.declared.course.Phase.{Phase}
 use Rattle.turn_relay_course.specs.declared.course.Phase.TheVariants as At
 use Rattle.turn_relay_course.specs.declared.reopen.Reopen.{Reopen}
-use Rattle.turn_relay_course.specs.declared.reopen.Reopen.TheVariants.{Always}
+use Rattle.turn_relay_course.specs.declared.reopen.Reopen.TheVariants.{Never, Always}
 
 -- ---- tries are spaced
 
@@ -29,16 +29,24 @@ is_begun At.Resting = false
 is_begun (At.Over why) = false
 is_begun _ = true
 
--- whatever the caller does, unless a relay was up for 60 s
+-- of a relay that comes back, whatever the caller does, unless it was up for 60 s
 pub record TriesAreSpaced : Type 0 where
   -- a relay begins with the first wait
-  pub first : (reopen : Reopen) (servers : ℕ) (b : Backoff) (seed : List ℕ) (calls : List Call)
-      → AreSoon calls (new_course reopen servers b seed) → AreSpaced b 0 b.first (begin_times calls (new_course reopen servers b seed))
+  pub first : (servers : ℕ) (b : Backoff) (seed : List ℕ) (calls : List Call)
+      → AreSoon calls (new_course Always servers b seed) → AreSpaced b 0 b.first (begin_times calls (new_course Always servers b seed))
   -- at any time in it
-  pub later : (calls : List Call) (c : Course) → AreSoon calls c → AreSpaced c.backoff c.tries.due c.tries.wait (begin_times calls c)
+  pub later : (calls : List Call) (c : Course) → c.reopen ≡ Always → AreSoon calls c
+      → AreSpaced c.backoff c.tries.due c.tries.wait (begin_times calls c)
   -- no try is due within 0.2 s of the end of one before it
-  pub rests : (cause : Cause) (now : ℕ) (c : Course) → AreSoon (Failed cause now ∷ []) c → is_begun c.phase ≡ true
+  pub rests : (cause : Cause) (now : ℕ) (c : Course) → c.reopen ≡ Always → AreSoon (Failed cause now ∷ []) c → is_begun c.phase ≡ true
       → after now 200_000_000 ≤ (step (Failed cause now) c).tries.due
+
+-- ---- one life tries each server once
+
+-- whatever the caller does; without a server there is one try
+abbrev pub EachServerOnce : Type 0
+EachServerOnce = (servers : ℕ) (b : Backoff) (seed : List ℕ) (calls : List Call) → servers < 2 ^ 64
+    → length (begin_times calls (new_course Never servers b seed)) ≤ max servers 1
 
 -- ---- the next try comes
 

@@ -2,7 +2,8 @@
 
 ghost use Rattle.std.specs.Prelude.{◌≡◌, ◌<◌};
 ghost use Rattle.turn_relay_course.specs.Course.{after_failure, after_leaving, after_ready, after_restoring, after_sign, begin_step, begun_try, due_time};
-ghost use Rattle.turn_relay_course.specs.Course.{ends_by, ends_in, gone_down, is_due, is_late, new_course, next_server, opened_course, phase_after, tries_after};
+ghost use Rattle.turn_relay_course.specs.Course.{ends_by, ends_in, gone_down, is_due, is_late, new_course, next_server, opened_course};
+ghost use Rattle.turn_relay_course.specs.Course.{phase_after, tries_after, tries_again, try_end};
 
 use crate::reopen::Reopen;
 use std::time::Duration;
@@ -21,8 +22,8 @@ pub enum Phase {
     Resting,
     /// A try has begun: the caller is asked for user name and password.
     Asking,
-    /// An address is requested of a server, until this time.
-    Trying(Instant),
+    /// An address is requested of a server, until this time, or without one until there is a response, or the server is given up.
+    Trying(Option<Instant>),
     /// There is an address, and what the session before had is requested again.
     Restoring,
     /// The relay is up, since this time.
@@ -105,7 +106,18 @@ impl Course {
         ensures { self.new ≡ after_ready now self.old }
     {
         if matches!(self.phase, Phase::Asking) {
-            self.phase = Phase::Trying(now.plus(Duration::from_nanos(self.tries.length)));
+            self.phase = Phase::Trying(self.try_end(now));
+        }
+    }
+
+    /// When a try that has user name and password now is over. In one life a try has no such time: it ends with the requests of its
+    /// clients, which have theirs (RFC 8489, section 6.2.1).
+    pub fn try_end(&self, now: Instant) -> Option<Instant>
+        ensures { result ≡ try_end now self.now }
+    {
+        match self.reopen {
+            Reopen::Never => None,
+            Reopen::Always => Some(now.plus(Duration::from_nanos(self.tries.length))),
         }
     }
 
@@ -140,7 +152,7 @@ impl Course {
         ensures { result ≡ is_late now self.now }
     {
         match self.phase {
-            Phase::Trying(until) => until <= now,
+            Phase::Trying(Some(until)) => until <= now,
             _ => false,
         }
     }
@@ -167,17 +179,31 @@ impl Course {
         self.server = self.next_server();
     }
 
-    /// When the next try is due, and how long it lasts.
+    /// When the next try is due, and how long it lasts. In one life it is another server's, and is due at once.
     fn tries_after(&self, cause: Cause, now: Instant) -> Tries
         ensures { result ≡ tries_after cause now self.now }
+    {
+        match self.reopen {
+            Reopen::Never => {
+                let mut tries = self.tries;
+                tries.at_once(now);
+                tries
+            }
+            Reopen::Always => self.tries_again(cause, now),
+        }
+    }
+
+    /// The same for a relay that comes back.
+    fn tries_again(&self, cause: Cause, now: Instant) -> Tries
+        ensures { result ≡ tries_again cause now self.now }
     {
         let mut tries = self.tries;
         if let Phase::Up(since) = self.phase {
             tries.ended(self.backoff, since, now);
             return tries;
         }
-        if self.is_heard && matches!(cause, Cause::TooSlow(_)) {
-            tries.too_slow();
+        if matches!(cause, Cause::TooSlow(_)) {
+            tries.too_slow(self.is_heard);
         }
         tries.failed(now);
         tries
@@ -237,7 +263,7 @@ impl Course {
     {
         match self.phase {
             Phase::Resting => Some(self.tries.due),
-            Phase::Trying(until) => Some(until),
+            Phase::Trying(until) => until,
             _ => None,
         }
     }

@@ -1,12 +1,17 @@
 //! Laws of a course. They are statements: no function here does anything.
 
-ghost use Rattle.turn_relay_course.specs.Laws.{NextTryComes, OneFailureEndsNothing, SleepsThroughNothing, TriesAreSpaced};
+ghost use Rattle.turn_relay_course.specs.Laws.{EachServerOnce, NextTryComes, OneFailureEndsNothing, SleepsThroughNothing, TriesAreSpaced};
 
-/// Whatever the caller of a course does, and whenever: between the beginnings of two tries lies the wait of the back-off, less its
-/// random part, which doubles up to the longest, and 0.2 s between the end of a try and the next. Only a relay that was up for 60 s
-/// begins anew.
+/// Whatever the caller of a relay that comes back does, and whenever: between the beginnings of two tries lies the wait of the
+/// back-off, less its random part, which doubles up to the longest, and 0.2 s between the end of a try and the next. Only a relay that
+/// was up for 60 s begins anew.
 pub fn tries_are_spaced()
     ensures { TriesAreSpaced }
+{}
+
+/// Whatever the caller of a relay of one life does: each of its servers is tried at most once, although one follows the other at once.
+pub fn each_server_is_tried_once()
+    ensures { EachServerOnce }
 {}
 
 /// The next try is due when the longest wait has passed since the beginning of the one before it, and 0.2 s since its end, at the

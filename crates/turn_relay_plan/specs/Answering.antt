@@ -6,13 +6,13 @@ use Rattle.turn_relay_tries.specs.Addresses.{addresses_left, next_address}
 use Rattle.turn_relay_tries.specs.Addresses as Addresses
 use Rattle.turn_relay_tries.specs.Attempts.{no_attempts}
 use Rattle.turn_relay_tries.specs.Tasks.{added, after_end, work_of}
-use Rattle.turn_relay_tries.specs.Tries.{after}
 use Rattle.turn_relay_tries.specs.declared.causes.Cause.{Cause}
 use Rattle.turn_relay_tries.specs.declared.causes.Cause.TheVariants.{NoCredentials, NotConnected, NotResolved}
 use Rattle.turn_relay_tries.specs.declared.tasks.Attempt.{Attempt}
 use Rattle.turn_relay_tries.specs.declared.tasks.Work.{Work}
 use Rattle.turn_relay_tries.specs.declared.tasks.Work.TheVariants.{Credentials, Resolve, Socket}
-use Rattle.turn_relay_course.specs.Course.{after_ready}
+use Rattle.turn_relay_course.specs.Course.{after_ready, try_end}
+use Rattle.turn_relay_plan.specs.Attempting.{task_end}
 use Rattle.turn_relay_plan.specs.Failing.{after_failure, attempt_failed}
 use Rattle.turn_relay_plan.specs.PlanState.{PlanState}
 use Rattle.turn_relay_plan.specs.declared.error.TaskError.{TaskError}
@@ -34,7 +34,7 @@ Answers (Some t) result was s = IsDone t result was s
 -- the addresses of the server are wanted before the try has had its time
 abbrev pub after_credentials : ℕ → ℕ → PlanState → PlanState
 after_credentials number now s = record s {
-  tasks = after_end number (added (Resolve s.course.server) (after now s.course.tries.length) s.tasks);
+  tasks = after_end number (added (Resolve s.course.server) (task_end now (try_end now s.course)) s.tasks);
   course = after_ready now s.course;
 }
 

@@ -3,10 +3,10 @@ use Rattle.std.specs.Prelude.{ℕ, Bool, if◌then◌else◌, None}
 use Rattle.turn_relay_tries.specs.Addresses.{no_addresses}
 use Rattle.turn_relay_tries.specs.Attempts.{has_failed, no_attempts}
 use Rattle.turn_relay_tries.specs.Attempts as Attempting
+use Rattle.turn_relay_tries.specs.Failures.{after_leaving}
 use Rattle.turn_relay_tries.specs.Tasks.{withdrawn}
 use Rattle.turn_relay_tries.specs.declared.attempts.Attempts.{Attempts}
 use Rattle.turn_relay_tries.specs.declared.causes.Cause.{Cause}
-use Rattle.turn_relay_course.specs.Course.{after_leaving}
 use Rattle.turn_relay_course.specs.Course as Courses
 use Rattle.turn_relay_plan.specs.PlanState.{PlanState}
 use Rattle.turn_relay_plan.specs.declared.step.PlanStep.{PlanStep}
@@ -30,5 +30,9 @@ attempt_failed place cause now s =
     let t = record s { attempts = attempts } in
     (has_failed attempts, if has_failed attempts then after_failure cause now t else t)
 
+-- the server may keep an allocation that the relay had
+abbrev pub allocation_left : ℕ → PlanState → PlanState
+allocation_left until s = record s { course = record s.course { failures = after_leaving until s.course.failures } }
+
 abbrev pub left : PlanState → PlanState
-left s = stopped (record s { course = after_leaving s.course })
+left s = stopped (record s { course = Courses.after_leaving s.course })

@@ -77,6 +77,13 @@ impl Plan {
         self.course.phase
     }
 
+    /// Whether it is opened again.
+    pub fn reopen(&self) -> Reopen
+        ensures { result ≡ self.now.course.reopen }
+    {
+        self.course.reopen
+    }
+
     /// When the next try is due, if none is under way.
     pub fn next_try(&self) -> Instant
         ensures { result ≡ self.now.course.tries.due }

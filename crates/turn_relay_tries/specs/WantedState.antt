@@ -1,4 +1,4 @@
--- What the sessions of a relay are asked for again.
+-- What the sessions of a relay are asked for.
 use Rattle.std.specs.Prelude.{ℕ, List}
 use Rattle.turn_relay_tries.specs.declared.wanted.WantedKey.{WantedKey}
 
@@ -6,3 +6,5 @@ pub record WantedState : Type 0 where
   pub keys : List WantedKey
   -- the number of the session that is asked now
   pub session : ℕ
+  -- the ticket of the next request of the caller
+  pub next_ticket : ℕ

@@ -12,8 +12,8 @@ pub const LAST_TRY: u64 = 31_200_000_000;
 /// The least time between the end of a try and the next one.
 pub const REST: u64 = 200_000_000;
 
-/// A relay that was up for so long is tried again at once, and the waits begin anew. One that broke sooner is one more failure: a
-/// server may grant addresses that last for no time.
+/// A relay that was up for so long is tried again at once, and waits and tries begin anew. One that broke sooner is one more
+/// failure: a server may grant addresses that last for no time.
 pub const HELD: u64 = 60_000_000_000;
 
 /// So many tries in a row that fail by a final error, or by wrong credentials, are the last. Nobody has to have signed the one packet

@@ -2,7 +2,7 @@
 
 ghost use Rattle.std.specs.Prelude.{◌≡◌, ◌≤◌, ◌+◌};
 ghost use Rattle.turn_agent.specs.TransactionIds.{behind_id, next_id};
-ghost use Rattle.turn_relay_tries.specs.Tries.{after_end, after_failure, after_slow_try, anew, begun, first_tries};
+ghost use Rattle.turn_relay_tries.specs.Tries.{after_end, after_failure, after_slow_try, at_once, begun, first_tries};
 
 use crate::backoff::Backoff;
 use crate::constants::{FIRST_TRY, HELD, LAST_TRY, REST};
@@ -51,23 +51,34 @@ impl Tries {
         self.due = self.due.max(now.plus(Duration::from_nanos(REST)));
     }
 
-    /// The try was over before the server, which had responded, granted an address: further ones last twice as long, up to 31.2 s.
-    pub fn too_slow(&mut self)
-        ensures { self.new ≡ after_slow_try self.old }
+    /// The try was over before the server granted an address. If it had responded, the path is slow: further tries last twice as
+    /// long, up to 31.2 s. If it had not, they last as long as the first one: a long try at a server that is away delays the next.
+    pub fn too_slow(&mut self, is_heard: bool)
+        ensures { self.new ≡ after_slow_try is_heard self.old }
     {
-        self.length = self.length.saturating_mul(2).min(LAST_TRY);
+        self.length = if is_heard {
+            self.length.saturating_mul(2).min(LAST_TRY)
+        } else {
+            FIRST_TRY
+        };
     }
 
-    /// The relay, which was up since then, went down now. If it was up for 60 s or longer, the next try is due at once, and the waits
-    /// begin anew; otherwise this is one more failure.
+    /// The try failed now, and the next one is due at once.
+    pub fn at_once(&mut self, now: Instant)
+        ensures { self.new ≡ at_once now self.old }
+    {
+        self.due = now;
+    }
+
+    /// The relay, which was up since then, went down now. If it was up for 60 s or longer, the next try is due at once, and waits
+    /// and tries are as short as the first ones; otherwise this is one more failure.
     pub fn ended(&mut self, backoff: Backoff, since: Instant, now: Instant)
         ensures { self.new ≡ after_end backoff since now self.old }
     {
         if now < since.plus(Duration::from_nanos(HELD)) {
             self.failed(now);
         } else {
-            self.due = Instant::ZERO;
-            self.wait = backoff.first;
+            *self = Tries::new(backoff);
         }
     }
 }

@@ -6,8 +6,8 @@ ghost use Rattle.turn_relay_plan.specs.Answering.{found_address, resolved_by, re
 
 use crate::error::TaskError;
 use crate::plan::Plan;
+use crate::plan::attempting::task_end;
 use std::net::SocketAddr;
-use std::time::Duration;
 use turn_relay_tries::attempts::Attempts;
 use turn_relay_tries::causes::Cause;
 use turn_relay_tries::tasks::{Attempt, Work};
@@ -105,7 +105,7 @@ impl Plan {
     fn look_up(&mut self, number: u64, now: Instant) -> Result<(), TaskError>
         ensures { IsDone (after_credentials number now self.old) result self.old self.new }
     {
-        let until = now.plus(Duration::from_nanos(self.course.tries.length));
+        let until = task_end(self.course.try_end(now), now);
         match self.tasks.add(Work::Resolve(self.course.server), until) {
             Ok(_number) => {
                 self.tasks.end(number);

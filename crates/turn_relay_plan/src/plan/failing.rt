@@ -1,7 +1,7 @@
 //! What has failed.
 
 ghost use Rattle.std.specs.Prelude.{◌≡◌};
-ghost use Rattle.turn_relay_plan.specs.Failing.{after_failure, attempt_failed, failed_step, left, stopped};
+ghost use Rattle.turn_relay_plan.specs.Failing.{after_failure, allocation_left, attempt_failed, failed_step, left, stopped};
 
 use crate::plan::Plan;
 use crate::step::PlanStep;
@@ -29,6 +29,14 @@ impl Plan {
             self.fail(cause, now);
         }
         has_failed
+    }
+
+    /// The server may keep an allocation that the relay had until this time. While it does, it refuses no other one for a quota for
+    /// good.
+    pub fn left(&mut self, until: Instant)
+        ensures { self.new ≡ allocation_left until self.old }
+    {
+        self.course.failures.left(until);
     }
 
     /// The caller leaves: no other try is made, and its tasks are withdrawn.

@@ -6,7 +6,7 @@ ghost use Rattle.turn_relay_plan.specs.declared.step.PlanStep.TheVariants.{Again
 ghost use Rattle.turn_relay_plan.specs.Attempting.{plan_due};
 ghost use Rattle.turn_relay_plan.specs.Polling.{begun, plan_step, too_slow};
 
-use crate::constants::CREDENTIALS_WAIT;
+use crate::constants::TASK_WAIT;
 use crate::plan::Plan;
 use crate::step::PlanStep;
 use std::alloc::AllocError;
@@ -58,7 +58,7 @@ impl Plan {
         ensures after { OnOk result (self.new ≡ begun now self.old) }
         ensures no_memory { OnErr result (self.new ≡ self.old) }
     {
-        let until = now.plus(Duration::from_nanos(CREDENTIALS_WAIT));
+        let until = now.plus(Duration::from_nanos(TASK_WAIT));
         let _number = self.tasks.add(Work::Credentials, until)?;
         let _is_begun = self.course.begin(now);
         Ok(PlanStep::Again)

@@ -1,9 +1,11 @@
 //! How far a relay comes.
 
 ghost use Rattle.std.specs.Prelude.{◌≡◌};
-ghost use Rattle.turn_relay_plan.specs.Progress.{after_opening, after_response, after_restoring};
+ghost use Rattle.turn_relay_plan.specs.Progress.{after_opening, after_response, after_restoring, redirected};
 
 use crate::plan::Plan;
+use std::net::SocketAddr;
+use turn_relay_tries::attempts::Attempts;
 use turn_stun::instant::Instant;
 
 impl Plan {
@@ -13,6 +15,14 @@ impl Plan {
     {
         self.course.heard();
         self.stop();
+    }
+
+    /// The server in use names this one in its place (RFC 8489, section 10), which is attempted within the same try.
+    pub fn redirected(&mut self, to: SocketAddr)
+        ensures { self.new ≡ redirected to self.old }
+    {
+        self.next = Some(to);
+        self.attempts = Attempts::new(1);
     }
 
     /// The server has granted an address.

@@ -1,0 +1,13 @@
+use Rattle.std.proofs.Common.{◌≡◌, get_or, sym}
+use Rattle.turn_session_book.proofs.FirstLemmas.{find-some, position-none}
+use Rattle.turn_relay_tries.specs.Wanted.{begins_to_count}
+use Rattle.turn_relay_tries.proofs.wanted.Wanted.counts.Goals as goal
+
+pub returns-in-Some : goal.returns-in-Some
+returns-in-Some c =
+    let r = c.index.result.now in
+    let taken : r ≡ get_or c.args.self.now.keys c.in-Some.place r = rw (← c.self.view_is) c.index.ensures in
+    sym (find-some (begins_to_count c.args.now c.args.self.now.session) c.args.self.now.keys c.in-Some.place r (sym c.in-Some.ensures) taken)
+
+pub returns-in-None : goal.returns-in-None
+returns-in-None c = sym (position-none (begins_to_count c.args.now c.args.self.now.session) c.args.self.now.keys (sym c.in-None.ensures))
