@@ -560,11 +560,11 @@ YARROWDOOR_INLINE enum yarrowdoor_kind yarrowdoor_poll(yarrowdoor *client, uint6
    retransmissions wait for no pause. With timed_from_send a request that has not left is neither retransmitted nor times
    out, and refreshes that are due leave before what is queued. Without it they wait behind that, and the waits of a request
    run from the call that makes it: over UDP, those that have not left after 500 ms all leave then, without a pause, and once
-   more in their turn, even if they are answered or have failed by then. Either way what was queued leaves also if nothing
-   needs it any more, as when its allocation is gone. YARROWDOOR_PACKET: send the answer->len bytes in the buffer, and the
-   answer->left ones behind them that yarrowdoor_read gives, over UDP as one datagram. 1,500 bytes hold the packets of
-   usual servers, and YARROWDOOR_MAX_PACKET each packet. YARROWDOOR_NOTHING: none is due. YARROWDOOR_UNREAD_BYTES: read the
-   rest of an earlier answer first. */
+   more in their turn, even if they are answered or have failed by then. What was queued leaves then also if nothing needs it
+   any more, as when its allocation is gone; with timed_from_send it does not. YARROWDOOR_PACKET: send the answer->len bytes
+   in the buffer, and the answer->left ones behind them that yarrowdoor_read gives, over UDP as one datagram. 1,500 bytes hold
+   the packets of usual servers, and YARROWDOOR_MAX_PACKET each packet. YARROWDOOR_NOTHING: none is due.
+   YARROWDOOR_UNREAD_BYTES: read the rest of an earlier answer first. */
 YARROWDOOR_INLINE enum yarrowdoor_kind yarrowdoor_poll_transmit(yarrowdoor *client, uint64_t now, uint8_t *buffer,
                                                                 size_t buffer_len, yarrowdoor_answer *answer);
 
@@ -686,12 +686,12 @@ YARROWDOOR_INLINE enum yarrowdoor_kind yarrowdoor_tcp_closed(yarrowdoor *client,
                                                              yarrowdoor_answer *answer);
 
 /* Requests that the server delete the allocations (RFC 8656, section 8). YARROWDOOR_DONE: poll and transmit until
-   YARROWDOOR_CLOSED, for as long as you care to wait: if the server answers with an error other than 437 it
-   does not come, and with timed_from_send not before the REFRESH was taken by yarrowdoor_poll_transmit. It leaves behind
-   each request that was made before it, one in each pause: a caller that closes the socket at once leaves the relay to the
-   server until its lifetime is over, and so calls yarrowdoor_abandon instead. YARROWDOOR_REFUSED:
-   YARROWDOOR_ERROR_NO_ALLOCATION. To give up before there is one, free the
-   client: what the server may still grant ends there by its lifetime. */
+   YARROWDOOR_CLOSED, for as long as you care to wait: it may never come if the server answers with an error other than 437,
+   or yarrowdoor_poll_transmit does not take what is due. With timed_from_send it comes at the latest at a poll after the
+   lifetime that the server granted at first, or after 600 s if that is more. The REFRESH leaves behind each request that was
+   made before it, one in each pause: a caller that closes the socket at once leaves the relay to the server until its
+   lifetime is over, and so calls yarrowdoor_abandon instead. YARROWDOOR_REFUSED: YARROWDOOR_ERROR_NO_ALLOCATION. To give up
+   before there is one, free the client: what the server may still grant ends there by its lifetime. */
 YARROWDOOR_INLINE enum yarrowdoor_kind yarrowdoor_delete(yarrowdoor *client, uint64_t now, yarrowdoor_answer *answer);
 
 /* Gives the client up, for a caller that closes its socket at once, as a destructor does. YARROWDOOR_PACKET: send the answer->len

@@ -271,8 +271,9 @@ impl TurnConfig {
     /// 6.2.1: a request is retransmitted from when it was sent), and not from when it is made. Of a burst each request then
     /// leaves once, in its turn; else all that have not left after half a second leave in one instant, as retransmissions. As
     /// long as its first copy is not taken, a request does not time out, and what it requests stays pending, at the latest until
-    /// the allocation is removed; after `delete` the client ends only once the REFRESH was taken, and answered or timed out. By
-    /// default requests wait from when they are made. The original crate has no such setter.
+    /// the allocation is removed. After `delete` that is once the REFRESH was answered or timed out, or, if it is not taken or
+    /// the server refuses it, at a `poll` its first lifetime later, or 600 s if that is more. By default requests wait from when
+    /// they are made. The original crate has no such setter.
     pub fn set_requests_timed_from_send(&mut self, timed_from_send: bool) {
         self.requests_timed_from_send = timed_from_send;
     }
