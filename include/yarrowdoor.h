@@ -550,7 +550,7 @@ YARROWDOOR_INLINE yarrowdoor_settings yarrowdoor_settings_of(uint32_t transport,
    YARROWDOOR_ALLOCATE_TCP_SOCKET: open a connection from any port of this host to answer->to over
    answer->transport, and pass it to yarrowdoor_allocated_tcp_socket with the id and the addresses of the answer.
    YARROWDOOR_TCP_CLOSE: close the connection from answer->from to answer->to; a packet that yarrowdoor_poll_transmit still
-   gives for it, as its ConnectionBind, is dropped. YARROWDOOR_CLOSED: the client has
+   gives for it, as its ConnectionBind without timed_from_send, is dropped. YARROWDOOR_CLOSED: the client has
    ended; poll the events that are left, and close its data connections. By default that is 39.5 s after the start
    if nothing is answered, with an event for each family, and 39.5 s after the challenge if the user name or the
    password is wrong, with none. */
