@@ -11,8 +11,8 @@
 //!  nothing_follows_the_end  no call changes a session that has ended
 //!  leaves_in_time           a session that leaves has ended once its wait is over
 //!  healthy_paths_stay       a path that carries packets ends no session
-//!  sleeps_through_nothing   who calls again at the time that is told misses nothing
-//!  data_makes_nothing_due   data of peers makes nothing due before the time that is told
+//!  sleeps_through_nothing   who calls again at the time that `poll` returned misses nothing
+//!  data_makes_nothing_due   data of peers makes nothing due before the time that `poll` returned
 //!  data_is_the_clients      data of peers goes through the client, and changes nothing else
 //! ```
 #![tactic(auto)]
