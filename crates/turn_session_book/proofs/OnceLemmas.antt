@@ -1,6 +1,6 @@
 -- A key stands once among rows that each have one.
-use Rattle.std.proofs.Common.{◌≡◌, ℕ, ◌-◌, ◌<◌, Bool, List, [], ◌∷◌, ◌++◌, length, get_or, take, drop, Some, None, refl, sym, subst, inl, inr, arith}
-use Rattle.std.specs.Prelude.{Option, remove, slice_set}
+use Rattle.std.proofs.Common.{◌≡◌, ℕ, ◌-◌, ◌<◌, Bool, true, false, List, [], ◌∷◌, ◌++◌, length, get_or, map, take, drop, Some, None, refl, sym, subst, inl, inr, arith}
+use Rattle.std.specs.Prelude.{Option, if◌then◌else◌, remove, slice_set}
 use Rattle.std.specs.List.{find, position}
 use Rattle.std.proofs.lemmas.Bool.{cases_Bool}
 use Rattle.std.proofs.lemmas.List.Quantifiers.{position-Some}
@@ -8,9 +8,11 @@ use Rattle.std.proofs.lemmas.List.Sums.{sum_by-append, sum_by-cons, sum_by-remov
 use Rattle.std.proofs.lemmas.Option.{none-some}
 use Rattle.turn_session_book.specs.Keys.{same_key}
 use Rattle.turn_session_book.specs.First.{without_first}
-use Rattle.turn_session_book.specs.Once.{StandOnce, rest_key, stands, times}
+use Rattle.turn_session_book.specs.Once.{AreRequests, StandOnce, request_key, rest_key, stands, times}
+use Rattle.turn_session_book.specs.OpenRequests.{denied, denied_with, depends_on, with_denied}
 use Rattle.turn_session_book.specs.Rests.{after_refusal, last_rests, new_rest, without_rest}
 use Rattle.turn_session_book.specs.declared.keys.Key.{Key}
+use Rattle.turn_session_book.specs.declared.open_requests.OpenRequest.{OpenRequest}
 use Rattle.turn_session_book.specs.declared.replies.ErrorReply.{ErrorReply}
 use Rattle.turn_session_book.specs.declared.rests.Rest.{Rest}
 use Rattle.turn_session_book.proofs.FirstLemmas.{position-none, without_first-none, without_first-some}
@@ -70,6 +72,22 @@ module _ {X : Type 0} (key_of : X → Key) where
         omega (arith, sum_by-append (stands key_of key) rows (r ∷ []), sum_by-cons (stands key_of key) r [], once key, here)
   ]
 
+  times-map : (f : X → X) (key : Key) (rows : List X) → ((row : X) → key_of (f row) ≡ key_of row) → times key_of key (map f rows) ≡ times key_of key rows
+  times-map f key [] same = refl
+  times-map f key (r ∷ rows) same =
+      let here : stands key_of key (f r) ≡ stands key_of key r = rw (same r) refl in
+      omega (
+        arith,
+        sum_by-cons (stands key_of key) (f r) (map f rows),
+        sum_by-cons (stands key_of key) r rows,
+        times-map f key rows same,
+        here,
+      )
+
+  -- rows are replaced by those with their keys
+  pub once-map : (f : X → X) (rows : List X) → ((row : X) → key_of (f row) ≡ key_of row) → StandOnce key_of rows → StandOnce key_of (map f rows)
+  once-map f rows same once = λ key. omega (arith, times-map f key rows same, once key)
+
   -- ---- the row of a key is removed
 
   pub without_first-once : (key : Key) (rows : List X) (d : X) → StandOnce key_of rows → StandOnce key_of (without_first (is_at key) rows)
@@ -98,3 +116,17 @@ after_refusal-once key error now rests once =
     let r = new_rest key error now rests in
     once-last (without_rest key rests ++ r ∷ [])
     (once-push rest_key (without_rest key rests) r (without_first-gone rest_key key rests r once) (without_first-once rest_key key rests r once))
+
+-- ---- the requests
+
+either-key : (b : Bool) (x y : OpenRequest) → x.key ≡ y.key → (if b then x else y).key ≡ y.key
+either-key true x y same = same
+either-key false x y same = refl
+
+-- a request that is denied keeps its key
+denied-key : (permission : Key) (error : Option ErrorReply) (r : OpenRequest) → (denied_with permission error r).key ≡ r.key
+denied-key permission error r = either-key (depends_on permission r) (denied error r) r refl
+
+pub denied-once : (permission : Key) (error : Option ErrorReply) (requests : List OpenRequest) → AreRequests requests
+    → AreRequests (with_denied permission error requests)
+denied-once permission error requests once = once-map request_key (denied_with permission error) requests (denied-key permission error) once

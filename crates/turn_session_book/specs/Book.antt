@@ -109,7 +109,7 @@ rests_after key error now requested rests = if requested then after_refusal key 
 abbrev pub is_requested : Key → BookState → Bool
 is_requested key b = is_some (request_for key b.requests) || is_some (first_awaiting key b.requests)
 
--- the server refused the key by this error, or did not answer in time; so it did what awaits it
+-- the server refused the key by this error, or did not answer in time; so it did what depends on it
 abbrev pub after_failure : Key → Option ErrorReply → ℕ → BookState → BookState
 after_failure key error now b = record {
   requests = with_denied key error (without_request key b.requests);

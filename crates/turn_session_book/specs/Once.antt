@@ -1,5 +1,5 @@
 -- A key stands once among rows that each have one.
-use Rattle.std.specs.Prelude.{ℕ, ◌≤◌, Bool, if◌then◌else◌, List, length}
+use Rattle.std.specs.Prelude.{ℕ, ◌≤◌, if◌then◌else◌, List, length}
 use Rattle.std.specs.List.{sum_by}
 use Rattle.turn_session_book.specs.Keys.{same_key}
 use Rattle.turn_session_book.specs.declared.keys.Key.{Key}

@@ -1,6 +1,6 @@
 -- The requests of the caller that have no outcome yet.
 use Rattle.std.specs.declared.net.socket_addr.SocketAddr.{SocketAddr}
-use Rattle.std.specs.Prelude.{ℕ, ◌-◌, ◌&&◌, Bool, true, false, not, if◌then◌else◌, List, [], ◌∷◌, ◌++◌, find, length, slice_get, take}
+use Rattle.std.specs.Prelude.{ℕ, ◌-◌, ◌&&◌, ◌||◌, Bool, true, false, not, if◌then◌else◌, List, [], ◌∷◌, ◌++◌, find, length, map, slice_get, take}
 use Rattle.std.specs.Prelude.{Option, Some, None, is_none}
 use Rattle.turn_session_book.specs.First.{with_first, without_first}
 use Rattle.turn_types.specs.declared.family.AddressFamily.{AddressFamily}
@@ -201,6 +201,13 @@ first_denied requests = find (λ r. is_denied r.progress) requests
 abbrev pub denied : Option ErrorReply → OpenRequest → OpenRequest
 denied error r = record r { progress = Denied; error = error }
 
--- if it is refused, or not answered in time, so is the request
+-- it cannot go on without this permission, which is to be requested or is requested, for it or for another
+abbrev pub depends_on : Key → OpenRequest → Bool
+depends_on permission r = (is_unpermitted r.progress || is_permitting r.progress) && needs permission r
+
+abbrev pub denied_with : Key → Option ErrorReply → OpenRequest → OpenRequest
+denied_with permission error r = if depends_on permission r then denied error r else r
+
+-- if it is refused, or not answered in time, so are all requests that depend on it
 abbrev pub with_denied : Key → Option ErrorReply → List OpenRequest → List OpenRequest
-with_denied permission error requests = with_first (awaits permission) (denied error) requests
+with_denied permission error requests = map (denied_with permission error) requests

@@ -112,7 +112,7 @@ impl Book {
     }
 
     /// The server refused this key, by this error, or with `None` it did not answer in time. A grant of it has ended, a request for
-    /// it has its outcome, one that awaits it is denied, and what was requested rests.
+    /// it has its outcome, those that depend on it are denied, and what was requested rests.
     ///
     /// # Errors
     ///

@@ -68,6 +68,17 @@ impl Held {
         }
     }
 
+    /// Makes room for so many more grants.
+    ///
+    /// # Errors
+    ///
+    /// If memory allocation fails.
+    pub fn make_room(&mut self, count: usize) -> Result<(), AllocError>
+        ensures { self.new ≡ self.old }
+    {
+        self.grants.reserve(count)
+    }
+
     /// The server has granted this key, which the caller keeps or has let go. One that was granted before stays as it is.
     ///
     /// # Errors

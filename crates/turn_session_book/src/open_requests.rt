@@ -85,6 +85,13 @@ impl OpenRequests {
         }
     }
 
+    /// The requests, in the order in which the caller made them.
+    pub fn as_slice(&self) -> &[OpenRequest]
+        ensures { result.now ≡ self.now }
+    {
+        &self.requests
+    }
+
     /// The request for this key.
     pub fn request_of(&self, key: Key) -> Option<OpenRequest>
         ensures { result ≡ request_for key self.now }

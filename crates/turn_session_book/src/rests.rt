@@ -55,6 +55,18 @@ impl Rests {
         }
     }
 
+    /// Makes room for so many more rests, as far as there may be so many.
+    ///
+    /// # Errors
+    ///
+    /// If memory allocation fails.
+    pub fn make_room(&mut self, count: usize) -> Result<(), AllocError>
+        ensures { self.new ≡ self.old }
+    {
+        let left = MAX_RESTS.saturating_sub(self.rests.len());
+        self.rests.reserve(count.min(left))
+    }
+
     /// The rest of this key, if it has not ended: it ends at its time.
     pub fn rest_of(&self, key: Key, now: Instant) -> Option<Rest>
         ensures { result ≡ rest_in_force key now self.now }

@@ -22,6 +22,13 @@ use turn_stun::instant::Instant;
 use turn_types::AddressFamily;
 
 impl Book {
+    /// The requests that have no outcome yet, in the order in which the caller made them.
+    pub fn requests(&self) -> &[OpenRequest]
+        ensures { result.now ≡ self.now.requests }
+    {
+        self.requests.as_slice()
+    }
+
     /// The request for this key that has no outcome yet.
     pub fn request_of(&self, key: Key) -> Option<OpenRequest>
         ensures { result ≡ request_for key self.now.requests }
@@ -32,6 +39,8 @@ impl Book {
     /// Notes a request with this ticket behind the others, unless one for its key is under way. Returns the ticket under which its
     /// outcome is reported: that of the request under way, if there is one.
     ///
+    /// There is room for what the server may say to it from now on, so that this can be noted as it comes in.
+    ///
     /// # Errors
     ///
     /// If memory allocation fails. Nothing changes then. No memory is needed if a request for the key is under way.
@@ -41,7 +50,25 @@ impl Book {
         ensures err { OnErr result (self.new ≡ self.old) }
         ensures free { IsSome (request_for key self.old.requests) → IsOk result }
     {
+        if self.requests.request_of(key).is_none() {
+            self.make_room()?;
+        }
         self.requests.add(ticket, key, progress)
+    }
+
+    /// Makes room for what becomes of all requests and one more: an outcome and a rest of each, a channel with its permission, and one
+    /// event more, for the end of a grant that was requested again.
+    ///
+    /// # Errors
+    ///
+    /// If memory allocation fails.
+    fn make_room(&mut self) -> Result<(), AllocError>
+        ensures { self.new ≡ self.old }
+    {
+        let count = self.requests.as_slice().len().saturating_add(1);
+        self.events.reserve(count.saturating_add(1))?;
+        self.held.make_room(count.saturating_mul(2))?;
+        self.rests.make_room(count)
     }
 
     /// Forgets the last request: it was not made.

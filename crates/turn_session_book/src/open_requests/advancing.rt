@@ -2,11 +2,12 @@
 
 ghost use Rattle.std.specs.Prelude.{◌≡◌};
 ghost use Rattle.std.specs.List.{position};
-ghost use Rattle.turn_session_book.specs.OpenRequests.{hinted, is_opened_at, with_closed, with_denied, with_hint, with_keeping};
+ghost use Rattle.turn_session_book.specs.OpenRequests.{denied_with, depends_on, hinted, is_opened_at, with_closed, with_denied};
+ghost use Rattle.turn_session_book.specs.OpenRequests.{with_hint, with_keeping};
 ghost use Rattle.turn_session_book.specs.OpenRequests.{with_opened, with_permission_kept, with_progress, with_repeated};
 ghost use Rattle.turn_session_book.specs.OpenRequests.{with_resumed};
 
-use crate::keys::Key;
+use crate::keys::{Key, permission_for};
 use crate::open_requests::{OpenRequest, OpenRequests, Progress};
 use crate::replies::ErrorReply;
 use std::net::SocketAddr;
@@ -97,18 +98,12 @@ impl OpenRequests {
         }
     }
 
-    /// This permission was refused, by this error, or with `None` its request was not answered in time.
+    /// This permission was refused, by this error, or with `None` its request was not answered in time: so it is for each request
+    /// that depends on it.
     pub fn deny(&mut self, permission: Key, error: Option<ErrorReply>)
         ensures { self.new ≡ with_denied permission error self.old }
     {
-        if let Some(place) = self.permitting_place(permission) {
-            let request = self.requests[place];
-            self.requests[place] = OpenRequest {
-                progress: Progress::Denied,
-                error,
-                ..request
-            };
-        }
+        deny_all(&mut self.requests, permission, error);
     }
 
     /// The client ignored this error response to the request for this key. If its permission was refused, nothing changes.
@@ -128,6 +123,40 @@ impl OpenRequests {
             .iter()
             .position(|request| is_opened_at(local, request))
     }
+}
+
+/// Each of these requests that depends on this permission is denied, by this error.
+fn deny_all(requests: &mut Vec<OpenRequest>, permission: Key, error: Option<ErrorReply>)
+    ensures { requests.new.items ≡ with_denied permission error requests.old.items }
+{
+    let all = requests.as_mut_slice();
+    for request in all.iter_mut() {
+        *request = denied_with(*request, permission, error);
+    }
+}
+
+/// The request, which is denied by this error if it depends on this permission.
+fn denied_with(request: OpenRequest, permission: Key, error: Option<ErrorReply>) -> OpenRequest
+    ensures { result ≡ denied_with permission error request }
+{
+    if !depends_on(permission, &request) {
+        return request;
+    }
+    OpenRequest {
+        progress: Progress::Denied,
+        error,
+        ..request
+    }
+}
+
+/// Whether the request cannot go on without this permission.
+fn depends_on(permission: Key, request: &OpenRequest) -> bool
+    ensures { result ≡ depends_on permission request.now }
+{
+    matches!(
+        request.progress,
+        Progress::Unpermitted | Progress::Permitting
+    ) && permission_for(request.key) == permission
 }
 
 /// The request with this error, which the client ignored. One that is denied has the error of its permission.
