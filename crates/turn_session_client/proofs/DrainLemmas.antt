@@ -1,8 +1,8 @@
 -- The events of the client are noted one by one.
-use Rattle.std.proofs.Common.{◌≡◌, ℕ, ◌<◌, List, [], ◌∷◌, length, Some, None, refl, sym, ap, arith}
-use Rattle.std.specs.Prelude.{OnErr, Result, Ok, Err, Option}
+use Rattle.std.proofs.Common.{◌≡◌, ◌∙◌, ℕ, zero, suc, ◌<◌, List, [], ◌∷◌, length, Some, None, refl, sym, ap, inl, inr, arith}
+use Rattle.std.specs.Prelude.{◌⊎◌, OnErr, Result, Ok, Err, Option}
 use Rattle.turn_client_api.specs.declared.event.TurnEvent.{TurnEvent}
-use Rattle.turn_session_client.specs.Drain.{drained, next_event, unnoted}
+use Rattle.turn_session_client.specs.Drain.{DrainsSome, drained, next_event, next_noted, some_noted, unnoted}
 use Rattle.turn_session_client.specs.Notes.{noted}
 use Rattle.turn_session_client.specs.NotedState.{NotedState}
 
@@ -61,6 +61,41 @@ none-drained_of now s (event ∷ later) None none = cc
 
 pub none-drained : (now : ℕ) (s : NotedState) → (next_event s).0 ≡ None → (next_event s).1 ≡ drained now s
 none-drained now s none = none-drained_of now s s.client.events s.taken none
+
+-- ---- some are noted
+
+noted-next_of : (now : ℕ) (s : NotedState) (event : TurnEvent) (t : NotedState) → (next_event s).1 ≡ t → (next_event s).0 ≡ Some event
+    → next_noted now s ≡ record t { notes = noted event now t.notes; taken = None }
+noted-next_of now s event t is found = rw (found, is) refl
+
+pub noted-next : (now : ℕ) (s t : NotedState) (event : TurnEvent) → t ≡ (next_event s).1 → Some event ≡ (next_event s).0
+    → record t { notes = noted event now t.notes; taken = None } ≡ next_noted now s
+noted-next now s t event is found = sym (noted-next_of now s event t (sym is) (sym found))
+
+noted-same_of : (now : ℕ) (s : NotedState) (events : List TurnEvent) (taken : Option TurnEvent)
+    → drained now (next_noted now (session_of s events taken)) ≡ drained now (session_of s events taken)
+noted-same_of now s events (Some event) = refl
+noted-same_of now s [] None = refl
+noted-same_of now s (event ∷ later) None = refl
+
+noted-same : (now : ℕ) (s : NotedState) → drained now (next_noted now s) ≡ drained now s
+noted-same now s = noted-same_of now s s.client.events s.taken
+
+pub some-drained : (n now : ℕ) (s : NotedState) → drained now (some_noted n now s) ≡ drained now s
+some-drained zero now s = refl
+some-drained (suc n) now s = noted-same now (some_noted n now s) ∙ some-drained n now s
+
+-- what is left to note is what was to be noted
+pub some-same : (now : ℕ) (was s : NotedState) → DrainsSome now was s → drained now s ≡ drained now was
+some-same now was s some = by some.is
+  where
+    by : (s ≡ some_noted some.count now was) ⊎ (s ≡ (next_event (some_noted some.count now was)).1) → drained now s ≡ drained now was
+    by (inl is) = ap (drained now) is ∙ some-drained some.count now was
+    by (inr is) = ap (drained now) is ∙ (next-drained now (some_noted some.count now was) ∙ some-drained some.count now was)
+
+-- none of them is
+pub drains_none : (now : ℕ) (s : NotedState) → DrainsSome now s s
+drains_none now s = record { count = zero; is = inl refl }
 
 -- ---- without memory
 

@@ -1,2 +1,3 @@
+pub mod ChannelDataLemmas
 pub mod DrainLemmas
 pub mod ExpiryLemmas

@@ -1,5 +1,5 @@
 -- The events of the client are noted.
-use Rattle.std.specs.Prelude.{ℕ, List, [], ◌∷◌, ◌++◌, drop, slice_get, option_to_list, Option, Some, None}
+use Rattle.std.specs.Prelude.{◌≡◌, ◌⊎◌, ℕ, zero, suc, List, [], ◌∷◌, ◌++◌, drop, slice_get, option_to_list, Option, Some, None}
 use Rattle.turn_client_api.specs.declared.event.TurnEvent.{TurnEvent}
 use Rattle.turn_session_client.specs.Notes.{noted}
 use Rattle.turn_session_client.specs.NotedState.{NotedState}
@@ -34,3 +34,22 @@ next_event s = by s.taken
         taken = slice_get s.client.events 0;
       },
     )
+
+-- ---- some of them
+
+abbrev pub next_noted : ℕ → NotedState → NotedState
+next_noted now s = let next = next_event s in by next.0 next.1
+  where
+    by : Option TurnEvent → NotedState → NotedState
+    by None t = t
+    by (Some event) t = record t { notes = noted event now t.notes; taken = None }
+
+-- so many are noted
+abbrev pub some_noted : ℕ → ℕ → NotedState → NotedState
+some_noted zero now s = s
+some_noted (suc n) now s = next_noted now (some_noted n now s)
+
+-- some are noted, in order, and the next one may be taken: with memory for the notes that is all of them
+pub record DrainsSome (now : ℕ) (was s : NotedState) : Type 0 where
+  pub count : ℕ
+  pub is : (s ≡ some_noted count now was) ⊎ (s ≡ (next_event (some_noted count now was)).1)

@@ -32,6 +32,8 @@ pub record NotedState : Type 0 where
   pub doubts : Doubts
   -- how long leaving takes at most, in nanoseconds
   pub leave_wait : ℕ
+  -- when the caller wrote the last bytes that it had for a data connection
+  pub written : Option ℕ
 
 abbrev pub is_stream : TransportType → Bool
 is_stream Udp = false
@@ -48,6 +50,7 @@ new_noted checks_allocation leave_wait now client = record {
   life = new_life (is_stream client.transport);
   doubts = no_doubts checks_allocation;
   leave_wait = leave_wait;
+  written = None;
 }
 
 abbrev pub with_book : BookState → NotedState → NotedState

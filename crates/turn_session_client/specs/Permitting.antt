@@ -1,10 +1,10 @@
 -- Requests whose peer's IP address is not permitted: that permission is requested first (RFC 8656, section 12; RFC 6062, section 4.3).
-use Rattle.std.specs.Prelude.{◌≡◌, ◌⊎◌, ℕ, Bool, true, false, if◌then◌else◌, Option, Some, None}
+use Rattle.std.specs.Prelude.{◌≡◌, ◌⊎◌, ◌&&◌, ℕ, Bool, true, false, if◌then◌else◌, find, Option, Some, None}
 use Rattle.turn_stun.specs.declared.transport.TransportType.{TransportType}
 use Rattle.turn_client_api.specs.State.{State}
 use Rattle.turn_session_book.specs.Book.{after_denial, after_settlement}
 use Rattle.turn_session_book.specs.Keys.{permission_for}
-use Rattle.turn_session_book.specs.OpenRequests.{first_denied, first_unpermitted, with_progress}
+use Rattle.turn_session_book.specs.OpenRequests.{first_denied, is_unpermitted, with_progress}
 use Rattle.turn_session_book.specs.declared.answers.Outcome.TheVariants.{Granted, NotMade}
 use Rattle.turn_session_book.specs.declared.keys.Key.{Key}
 use Rattle.turn_session_book.specs.declared.keys.Key.TheVariants.{Connect}
@@ -15,7 +15,6 @@ use Rattle.turn_session_client.specs.Keeping.{let_go}
 use Rattle.turn_session_client.specs.Making.{made}
 use Rattle.turn_session_client.specs.NotedState.{NotedState, with_book}
 use Rattle.turn_session_client.specs.Notes.{adopted, is_asked}
-use Rattle.turn_session_client.specs.Waiting.{is_full}
 use Rattle.turn_session_client.specs.declared.making.Made.{Made}
 use Rattle.turn_session_client.specs.declared.making.Made.TheVariants as Client
 
@@ -32,6 +31,21 @@ abbrev pub permission_taken : Key → Key → NotedState → NotedState
 permission_taken key permission s =
     if is_asked permission s.notes then record s { notes = adopted permission s.notes } else with_permission key s
 
+-- the request needs a permission, which is granted
+abbrev pub is_permitted : NotedState → OpenRequest → Bool
+is_permitted s r = is_unpermitted r.progress && is_granted (permission_for r.key) s
+
+abbrev pub first_permitted : NotedState → Option OpenRequest
+first_permitted s = find (is_permitted s) s.notes.book.requests
+
+-- the first of them goes on
+abbrev pub permitted_noted : NotedState → Bool × NotedState
+permitted_noted s = by (first_permitted s)
+  where
+    by : Option OpenRequest → Bool × NotedState
+    by (Some r) = (true, permission_taken r.key (permission_for r.key) s)
+    by None = (false, s)
+
 -- ---- it is requested of the client
 
 -- if it cannot be, that is the outcome
@@ -46,23 +60,6 @@ permission_made r relays now s = by (made (permission_for r.key) relays now s.cl
     by (Client.Refused error, client) = record (with_book (after_settlement r.key (NotMade error) s.notes.book) s) { client = client }
     by (Client.NoMemory, client) = s
 
--- not while eight requests of the client are queued
-abbrev pub permit_noted : OpenRequest → TransportType → ℕ → NotedState → Bool × NotedState
-permit_noted r relays now s = by (is_granted (permission_for r.key) s) (is_full s)
-  where
-    by : Bool → Bool → Bool × NotedState
-    by true _ = (true, permission_taken r.key (permission_for r.key) s)
-    by false true = (false, s)
-    by false false = (true, permission_made r relays now s)
-
--- the first of them whose permission no other request awaits
-abbrev pub unpermitted_noted : ℕ → NotedState → Bool × NotedState
-unpermitted_noted now s = by s.notes.relays (first_unpermitted s.notes.book.requests)
-  where
-    by : Option TransportType → Option OpenRequest → Bool × NotedState
-    by (Some relays) (Some r) = permit_noted r relays now s
-    by _ _ = (false, s)
-
 -- ---- it was refused, or not answered in time
 
 abbrev pub denied_noted : ℕ → NotedState → Bool × NotedState
@@ -70,7 +67,7 @@ denied_noted now s = by (first_denied s.notes.book.requests)
   where
     by : Option OpenRequest → Bool × NotedState
     by (Some r) = (true, with_book (after_denial r now s.notes.book) s)
-    by None = unpermitted_noted now s
+    by None = permitted_noted s
 
 -- ---- without memory
 
@@ -79,24 +76,16 @@ abbrev pub PermissionWaits : OpenRequest → TransportType → ℕ → NotedStat
 PermissionWaits r relays now was s =
     (s ≡ was) ⊎ (s ≡ record was { client = (made (permission_for r.key) relays now was.client).1 })
 
-abbrev pub PermitWaits : OpenRequest → TransportType → ℕ → NotedState → NotedState → Type 0
-PermitWaits r relays now was s = by (is_granted (permission_for r.key) was) (is_full was)
+abbrev pub PermittedWaits : NotedState → NotedState → Type 0
+PermittedWaits was s = by (first_permitted was)
   where
-    by : Bool → Bool → Type 0
-    by true _ = s ≡ was
-    by false true = ⊥
-    by false false = PermissionWaits r relays now was s
-
-abbrev pub UnpermittedWaits : ℕ → NotedState → NotedState → Type 0
-UnpermittedWaits now was s = by was.notes.relays (first_unpermitted was.notes.book.requests)
-  where
-    by : Option TransportType → Option OpenRequest → Type 0
-    by (Some relays) (Some r) = PermitWaits r relays now was s
-    by _ _ = ⊥
+    by : Option OpenRequest → Type 0
+    by (Some r) = s ≡ was
+    by None = ⊥
 
 abbrev pub DeniedWaits : ℕ → NotedState → NotedState → Type 0
 DeniedWaits now was s = by (first_denied was.notes.book.requests)
   where
     by : Option OpenRequest → Type 0
     by (Some r) = s ≡ was
-    by None = UnpermittedWaits now was s
+    by None = PermittedWaits was s

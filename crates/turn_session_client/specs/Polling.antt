@@ -10,7 +10,7 @@ use Rattle.turn_client_api.specs.Transmit.{transmit_step}
 use Rattle.turn_client_api.specs.declared.poll.TurnPollRet.{TurnPollRet}
 use Rattle.turn_client_api.specs.declared.poll.TurnPollRet.TheVariants.{WaitUntil, TcpClose, Closed}
 use Rattle.turn_session_book.specs.Book.{after_settlement}
-use Rattle.turn_session_book.specs.OpenRequests.{with_closed, with_progress}
+use Rattle.turn_session_book.specs.OpenRequests.{is_unpermitted, with_closed, with_progress}
 use Rattle.turn_session_book.specs.declared.answers.Outcome.TheVariants.{NotMade}
 use Rattle.turn_session_book.specs.declared.causes.Why.{Why}
 use Rattle.turn_session_book.specs.declared.causes.Why.TheVariants.{GrantSilent, OutOfMemory}
@@ -25,13 +25,14 @@ use Rattle.turn_session_life.specs.declared.life.Phase.TheVariants.{Opening, Lea
 use Rattle.turn_session_life.specs.declared.verdict.Blame.{Blame}
 use Rattle.turn_session_life.specs.declared.verdict.VerdictStep.{VerdictStep}
 use Rattle.turn_session_life.specs.declared.verdict.VerdictStep.TheVariants as Verdict
-use Rattle.turn_session_client.specs.Drain.{drained}
+use Rattle.turn_session_client.specs.Drain.{DrainsSome, drained}
 use Rattle.turn_session_client.specs.Ending.{ended, is_opening, is_over, left_for}
 use Rattle.turn_session_client.specs.Expiring.{ExpiryWaits, expiry_noted, first_expired}
 use Rattle.turn_session_client.specs.Keeping.{let_go}
 use Rattle.turn_session_client.specs.Leaving.{PollsLeaving, shortage_end}
 use Rattle.turn_session_client.specs.Making.{made}
 use Rattle.turn_session_client.specs.NotedState.{NotedState, is_stream, with_book}
+use Rattle.turn_session_client.specs.Permitting.{PermissionWaits, permission_made}
 use Rattle.turn_session_client.specs.Waiting.{next_to_make}
 use Rattle.turn_session_client.specs.declared.making.Made.{Made}
 use Rattle.turn_session_client.specs.declared.making.Made.TheVariants as Client
@@ -50,12 +51,16 @@ waiting_made r relays now s = by (made r.key relays now s.client)
     by (Client.Refused error, client) = record (with_book (after_settlement r.key (NotMade error) s.notes.book) s) { client = client }
     by (Client.NoMemory, client) = s
 
--- the first of them, if fewer than eight requests of the client are queued
+-- one that needs a permission has that requested first
+abbrev pub request_made : OpenRequest → TransportType → ℕ → NotedState → NotedState
+request_made r relays now s = if is_unpermitted r.progress then permission_made r relays now s else waiting_made r relays now s
+
+-- the next of them, if fewer than eight requests of the client are queued
 abbrev pub next_made : ℕ → NotedState → Bool × NotedState
 next_made now s = by s.notes.relays (next_to_make s)
   where
     by : Option TransportType → Option OpenRequest → Bool × NotedState
-    by (Some relays) (Some r) = (true, waiting_made r relays now s)
+    by (Some relays) (Some r) = (true, request_made r relays now s)
     by _ _ = (false, s)
 
 -- ---- without memory
@@ -64,11 +69,18 @@ next_made now s = by s.notes.relays (next_to_make s)
 abbrev pub WaitsOn : Key → TransportType → ℕ → NotedState → NotedState → Type 0
 WaitsOn key relays now was s = (s ≡ was) ⊎ (s ≡ record was { client = (made key relays now was.client).1 })
 
+abbrev pub RequestWaits : OpenRequest → TransportType → ℕ → NotedState → NotedState → Type 0
+RequestWaits r relays now was s = by (is_unpermitted r.progress)
+  where
+    by : Bool → Type 0
+    by true = PermissionWaits r relays now was s
+    by false = WaitsOn r.key relays now was s
+
 abbrev pub NextWaitsOn : ℕ → NotedState → NotedState → Type 0
 NextWaitsOn now was s = by was.notes.relays (next_to_make was)
   where
     by : Option TransportType → Option OpenRequest → Type 0
-    by (Some relays) (Some r) = WaitsOn r.key relays now was s
+    by (Some relays) (Some r) = RequestWaits r relays now was s
     by _ _ = ⊥
 
 -- ---- what is noted first
@@ -123,7 +135,7 @@ IsShort now answer = answer ≡ WaitUntil (shortage_end now)
 -- the client has ended: its last events are noted, and then the session has ended
 abbrev pub Closes : ℕ → NotedState → NotedState → TurnPollRet → Type 0
 Closes now was s answer =
-    ((answer ≡ Closed) × EndsWithCause now (drained now was) s) ⊎ (IsShort now answer × (drained now s ≡ drained now was))
+    ((answer ≡ Closed) × EndsWithCause now (drained now was) s) ⊎ (IsShort now answer × DrainsSome now was s)
 
 -- a client that waits has not ended by a challenge
 abbrev pub waiting : ℕ → ℕ → NotedState → NotedState
@@ -182,7 +194,7 @@ PollsNoted now (false, t) s answer = ExpiresOrGoesOn now t s answer
 
 abbrev pub PollsRunning : ℕ → NotedState → NotedState → TurnPollRet → Type 0
 PollsRunning now was s answer =
-    PollsNoted now (prepared now was) s answer ⊎ (IsShort now answer × (drained now s ≡ drained now was))
+    PollsNoted now (prepared now was) s answer ⊎ (IsShort now answer × DrainsSome now was s)
 
 abbrev pub Polls : ℕ → NotedState → NotedState → TurnPollRet → Type 0
 Polls now was s answer = by was.life.phase

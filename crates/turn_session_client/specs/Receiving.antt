@@ -22,7 +22,7 @@ use Rattle.turn_session_life.specs.declared.life.Phase.{Phase}
 use Rattle.turn_session_life.specs.declared.life.Phase.TheVariants.{Leaving, Over}
 use Rattle.turn_session_life.specs.declared.responses.Response.{Response}
 use Rattle.turn_session_life.specs.declared.verdict.Blame.{Blame}
-use Rattle.turn_session_client.specs.Drain.{drained}
+use Rattle.turn_session_client.specs.Drain.{DrainsSome}
 use Rattle.turn_session_client.specs.Ending.{is_open}
 use Rattle.turn_session_client.specs.Reading.{IsReading, hint_in, ignored_in, is_foreign, mapped_after, reply_in, response_to}
 use Rattle.turn_session_client.specs.NotedState.{NotedState, with_book, with_life}
@@ -116,7 +116,7 @@ Receives transport from to bytes now was s = by was.life.phase (answers_nothing 
     by (Leaving leave) _ = s ≡ record was { client = (recv_step transport from to bytes now was.client).1 }
     by _ true = s ≡ was
     by _ false = (reading : Option Reading) × IsReading bytes was.client reading
-        × (drained now s ≡ drained now (heard_step transport from to bytes reading now was))
+        × DrainsSome now (heard_step transport from to bytes reading now was) s
 
 -- ---- without memory
 

@@ -1,5 +1,5 @@
 -- Data connections, which the caller opens and closes (RFC 6062, section 4.3).
-use Rattle.std.specs.Prelude.{◌≡◌, ◌⊎◌, ℕ, Bool, true, false, Option, Some, None, Result, Ok, Err}
+use Rattle.std.specs.Prelude.{◌≡◌, ◌⊎◌, ℕ, Bool, true, false, if◌then◌else◌, Option, Some, None, Result, Ok, Err}
 use Rattle.std.specs.declared.net.socket_addr.SocketAddr.{SocketAddr}
 use Rattle.turn_client_api.specs.Answers as Client
 use Rattle.turn_client_api.specs.Calls.{allocated_tcp_socket_step}
@@ -46,3 +46,8 @@ FailsSocket id socket peer tag now result was s =
 abbrev pub closed_socket : SocketAddr → SocketAddr → Tag → NotedState → NotedState
 closed_socket local peer tag s =
     let t = settled_socket peer tag s in record t { client = tcp_closed_step local t.client.remote t.client }
+
+-- ---- bytes of one that have left
+
+abbrev pub after_writing : ℕ → NotedState → NotedState
+after_writing now s = if is_over s.life.phase then s else record s { written = Some now }

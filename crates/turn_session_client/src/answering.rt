@@ -11,7 +11,7 @@ use turn_stun::message::Message;
 
 /// Whether these bytes begin with ChannelData or nothing known, and not with a message (RFC 8656, section 12).
 #[inline(always)]
-pub(crate) fn is_channel_data(bytes: &[u8]) -> bool
+pub fn is_channel_data(bytes: &[u8]) -> bool
     ensures { result ≡ is_channel_data bytes.now }
 {
     match bytes.first() {

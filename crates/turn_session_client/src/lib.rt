@@ -22,4 +22,5 @@ mod question;
 pub mod reading;
 mod refused;
 
+pub use answering::is_channel_data;
 pub use refused::{expiries_are_reported, refusals_are_reported};

@@ -7,6 +7,7 @@ ghost use Rattle.turn_session_client.specs.NotedState.{new_noted};
 ghost use Rattle.turn_session_life.specs.Life.{cause_in};
 
 mod asking;
+mod channel_data;
 mod data;
 pub mod doubting;
 mod draining;
@@ -50,6 +51,7 @@ pub struct NotedClient<C: TurnClientApi> {
     life: Life,
     doubts: Doubts,
     leave_wait: Duration,
+    written: Option<Instant>,
 }
 
 impl<C: TurnClientApi> Model for NotedClient<C> {
@@ -68,6 +70,7 @@ impl<C: TurnClientApi> Model for NotedClient<C> {
       life = s.life;
       doubts = s.doubts;
       leave_wait = as_nanos s.leave_wait;
+      written = s.written;
     } };
 }
 
@@ -94,6 +97,7 @@ impl<C: TurnClientApi> NotedClient<C> {
             life: Life::new(is_stream),
             doubts: Doubts::new(checks_allocation),
             leave_wait,
+            written: None,
         }
     }
 

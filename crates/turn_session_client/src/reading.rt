@@ -46,7 +46,6 @@ pub struct Reading {
 }
 
 /// The response to a request of this client, if these bytes are one.
-#[inline]
 pub(crate) fn read<C: TurnClientApi>(bytes: &[u8], client: &C) -> Option<Reading>
     ensures { IsReading bytes.now (C.state client.now) result }
 {
@@ -68,7 +67,6 @@ pub(crate) fn read<C: TurnClientApi>(bytes: &[u8], client: &C) -> Option<Reading
 
 /// Whether these bytes are a response that has another method than the request with its ID. It answers nothing (RFC 8489, section
 /// 6.3), and a client would end the request by it if it were signed.
-#[inline]
 pub(crate) fn is_foreign<C: TurnClientApi>(bytes: &[u8], client: &C) -> bool
     ensures { result ≡ is_foreign bytes.now (C.state client.now) }
 {

@@ -1,5 +1,5 @@
 -- How far a session has come, from its opening to its end, and what of that is reported.
-use Rattle.std.specs.Prelude.{ℕ, ◌+◌, ◌-◌, ◌^◌, min, Bool, true, false, if◌then◌else◌, Option, Some, None}
+use Rattle.std.specs.Prelude.{ℕ, ◌+◌, ◌-◌, ◌/◌, ◌^◌, min, Bool, true, false, if◌then◌else◌, Option, Some, None}
 use Rattle.turn_session_book.specs.declared.causes.Why.{Why}
 use Rattle.turn_session_life.specs.declared.life.Life.{Life}
 use Rattle.turn_session_life.specs.declared.life.Phase.{Phase}
@@ -40,16 +40,20 @@ after_opening l = record l { phase = opened l.phase }
 -- ---- the end
 
 -- at the latest after this time
-abbrev pub left_until : Why → ℕ → ℕ → Phase
-left_until why wait now = Leaving (record { until = min (now + wait) (2 ^ 63 - 1); why = why; is_deleted = false })
+abbrev pub left_until : Why → ℕ → ℕ → ℕ → Phase
+left_until why delete_by wait now =
+    Leaving (record { delete_by = delete_by; until = min (now + wait) (2 ^ 63 - 1); why = why; is_deleted = false })
 
--- the caller leaves
+abbrev pub middle : ℕ → ℕ → ℕ
+middle wait now = min (now + wait / 2) (2 ^ 63 - 1)
+
+-- the caller leaves, and the deletion is requested in the middle of that time at the latest
 abbrev pub after_leave : ℕ → ℕ → Life → Life
-after_leave wait now l = if is_running l.phase then record l { phase = left_until Why.Closed wait now } else l
+after_leave wait now l = if is_running l.phase then record l { phase = left_until Why.Closed (middle wait now) wait now } else l
 
--- the session leaves by itself, and reports the cause at once
+-- the session leaves by itself: it requests the deletion and reports the cause at once
 abbrev pub after_ending : Why → ℕ → ℕ → Life → Life
-after_ending why wait now l = if is_running l.phase then record l { phase = left_until why wait now; ending = Due } else l
+after_ending why wait now l = if is_running l.phase then record l { phase = left_until why now wait now; ending = Due } else l
 
 abbrev pub deleted : Phase → Phase
 deleted (Leaving leave) = Leaving (record leave { is_deleted = true })

@@ -26,6 +26,8 @@ pub enum Phase {
 /// A session that deletes its allocation.
 #[derive(Clone, Copy, Debug)]
 pub struct Leave {
+    /// When the deletion is requested at the latest: it may wait for bytes that are on their way to a peer.
+    pub delete_by: Instant,
     /// When it ends at the latest.
     pub until: Instant,
     /// Why it ends.
@@ -111,23 +113,23 @@ impl Life {
         }
     }
 
-    /// The caller leaves: the allocation is deleted within this time. A session that leaves or has ended goes on
-    /// with that.
+    /// The caller leaves: the allocation is deleted within this time, of which the first half may pass before the deletion is
+    /// requested. A session that leaves or has ended goes on with that.
     pub fn leave(&mut self, wait: Duration, now: Instant)
         ensures { self.new ≡ after_leave (as_nanos wait) now self.old }
     {
         if self.is_running() {
-            self.phase = left_until(Why::Closed, wait, now);
+            self.phase = left_until(Why::Closed, now.plus(wait / 2), wait, now);
         }
     }
 
-    /// The session ends for this cause after it has deleted its allocation, within this time. A session that leaves
-    /// or has ended goes on with that.
+    /// The session ends for this cause after it has deleted its allocation, within this time. The deletion is requested at once. A
+    /// session that leaves or has ended goes on with that.
     pub fn end_soon(&mut self, why: Why, wait: Duration, now: Instant)
         ensures { self.new ≡ after_ending why (as_nanos wait) now self.old }
     {
         if self.is_running() {
-            self.phase = left_until(why, wait, now);
+            self.phase = left_until(why, now, wait, now);
             self.ending = Report::Due;
         }
     }
@@ -194,11 +196,12 @@ impl Life {
     }
 }
 
-/// The phase of a session that leaves now, for this cause.
-fn left_until(why: Why, wait: Duration, now: Instant) -> Phase
-    ensures { result ≡ left_until why (as_nanos wait) now }
+/// The phase of a session that leaves now, for this cause, and whose deletion is requested by this time.
+fn left_until(why: Why, delete_by: Instant, wait: Duration, now: Instant) -> Phase
+    ensures { result ≡ left_until why delete_by (as_nanos wait) now }
 {
     Phase::Leaving(Leave {
+        delete_by,
         until: now.plus(wait),
         why,
         is_deleted: false,

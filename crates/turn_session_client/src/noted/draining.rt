@@ -1,7 +1,7 @@
 //! The events of the client are noted.
 
 ghost use Rattle.std.specs.Prelude.{◌≡◌, None, OnErr, OnOk};
-ghost use Rattle.turn_session_client.specs.Drain.{drained, next_event};
+ghost use Rattle.turn_session_client.specs.Drain.{DrainsSome, drained, next_event};
 ghost use Rattle.turn_session_client.specs.Notes.{noted};
 
 use crate::noted::NotedClient;
@@ -17,7 +17,7 @@ impl<C: TurnClientApi> NotedClient<C> {
     /// If memory allocation fails. Nothing is lost: what is left is noted by the next call.
     pub(crate) fn drain(&mut self, now: Instant) -> Result<(), AllocError>
         ensures ok { OnOk result (self.new ≡ drained now self.old) }
-        ensures err { OnErr result (drained now self.new ≡ drained now self.old) }
+        ensures some { DrainsSome now self.old self.new }
     {
         while let Some(event) = self.next_event() {
             self.note(event, now)?;

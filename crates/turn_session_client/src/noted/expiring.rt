@@ -1,6 +1,6 @@
 //! What happens without an event of the client: with an allocation, of which one of two may expire, or with a data connection.
 
-ghost use Rattle.std.specs.Prelude.{◌≡◌, ◌≤◌, ◌^◌, IfOk, OnErr, OnOk};
+ghost use Rattle.std.specs.Prelude.{◌≡◌, IfOk, OnErr, OnOk};
 ghost use Rattle.turn_session_client.specs.Expiring.{ClosedWaits, ExpiryWaits, closed_noted, closed_settled, expired_in};
 ghost use Rattle.turn_session_client.specs.Expiring.{expiry_noted, first_expired, has_allocation};
 
@@ -15,13 +15,12 @@ use turn_types::AddressFamily;
 
 impl<C: TurnClientApi> NotedClient<C> {
     /// Notes that one grant or request has come so far, of which the client reports nothing: it has ended with its allocation,
-    /// its data connection was closed, or its peer is not permitted. Returns whether there was one.
+    /// its data connection was closed, or its permission was refused or granted. Returns whether there was one.
     ///
     /// # Errors
     ///
     /// If memory allocation fails. It is noted by the next call.
     pub(crate) fn note_expiry(&mut self, now: Instant) -> Result<bool, AllocError>
-        requires now_in_range { now ≤ 2 ^ 62 }
         ensures ok { IfOk result (λ is_noted. (is_noted, self.new) ≡ expiry_noted now self.old) }
         ensures err { OnErr result (ExpiryWaits now self.old self.new) }
     {
@@ -34,14 +33,13 @@ impl<C: TurnClientApi> NotedClient<C> {
         }
     }
 
-    /// Notes that the data connection of a request was closed before the server had bound it, or what needs a permission. Returns
-    /// whether there was one.
+    /// Notes that the data connection of a request was closed before the server had bound it, or what became of the permission that
+    /// one needs. Returns whether there was one.
     ///
     /// # Errors
     ///
     /// If memory allocation fails. It is noted by the next call.
     fn note_closed(&mut self, now: Instant) -> Result<bool, AllocError>
-        requires now_in_range { now ≤ 2 ^ 62 }
         ensures ok { IfOk result (λ is_noted. (is_noted, self.new) ≡ closed_noted now self.old) }
         ensures err { OnErr result (ClosedWaits now self.old self.new) }
     {

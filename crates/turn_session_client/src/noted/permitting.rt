@@ -1,11 +1,10 @@
 //! Requests whose peer's IP address is not permitted: that permission is requested first.
 
 ghost use Rattle.std.specs.Prelude.{◌≡◌, ◌≤◌, ◌^◌, IfOk, OnErr, OnOk};
-ghost use Rattle.turn_session_client.specs.Permitting.{DeniedWaits, PermissionWaits, PermitWaits, UnpermittedWaits, denied_noted};
-ghost use Rattle.turn_session_client.specs.Permitting.{permission_made, permission_taken, permit_noted};
-ghost use Rattle.turn_session_client.specs.Permitting.{unpermitted_noted};
+ghost use Rattle.std.specs.List.{position};
+ghost use Rattle.turn_session_client.specs.Permitting.{DeniedWaits, PermissionWaits, PermittedWaits, denied_noted, first_permitted};
+ghost use Rattle.turn_session_client.specs.Permitting.{is_permitted, permission_made, permission_taken, permitted_noted};
 
-use crate::constants::MAX_UNSENT;
 use crate::keeping::let_go;
 use crate::making::{Made, make};
 use crate::noted::NotedClient;
@@ -18,14 +17,13 @@ use turn_stun::instant::Instant;
 use turn_types::TransportType;
 
 impl<C: TurnClientApi> NotedClient<C> {
-    /// Notes that the permission for a request was refused, which is its outcome, or goes on with one that needs a permission.
+    /// Notes that the permission for a request was refused, which is its outcome, or goes on with one whose permission is granted.
     /// Returns whether something was done.
     ///
     /// # Errors
     ///
     /// If memory allocation fails. The request waits on then.
     pub(crate) fn note_denied(&mut self, now: Instant) -> Result<bool, AllocError>
-        requires now_in_range { now ≤ 2 ^ 62 }
         ensures ok { IfOk result (λ is_noted. (is_noted, self.new) ≡ denied_noted now self.old) }
         ensures err { OnErr result (DeniedWaits now self.old self.new) }
     {
@@ -34,55 +32,54 @@ impl<C: TurnClientApi> NotedClient<C> {
                 self.notes.book.denied(request, now)?;
                 Ok(true)
             }
-            None => self.note_unpermitted(now),
+            None => self.note_permitted(),
         }
     }
 
-    /// Goes on with the first request that needs a permission which no other request awaits. Returns whether something was done.
+    /// Goes on with the first request that needs a permission which is granted. Returns whether there is one.
     ///
     /// # Errors
     ///
     /// If memory allocation fails. The request waits on then.
-    fn note_unpermitted(&mut self, now: Instant) -> Result<bool, AllocError>
-        requires now_in_range { now ≤ 2 ^ 62 }
-        ensures ok { IfOk result (λ is_noted. (is_noted, self.new) ≡ unpermitted_noted now self.old) }
-        ensures err { OnErr result (UnpermittedWaits now self.old self.new) }
+    fn note_permitted(&mut self) -> Result<bool, AllocError>
+        ensures ok { IfOk result (λ is_noted. (is_noted, self.new) ≡ permitted_noted self.old) }
+        ensures err { OnErr result (PermittedWaits self.old self.new) }
     {
-        let Some(relays) = self.notes.relays else {
-            return Ok(false);
-        };
-        let Some(request) = self.notes.book.first_unpermitted() else {
-            return Ok(false);
-        };
-        self.permit(request, relays, now)
+        match self.first_permitted() {
+            Some(request) => {
+                self.take_permission(request.key, permission_for(request.key))?;
+                Ok(true)
+            }
+            None => Ok(false),
+        }
     }
 
-    /// Goes on with this request if its permission is granted, or requests that. It is not requested while eight requests of the
-    /// client are queued. Returns whether something was done.
-    ///
-    /// # Errors
-    ///
-    /// If memory allocation fails. The request waits on then.
-    fn permit(
-        &mut self,
-        request: OpenRequest,
-        relays: TransportType,
-        now: Instant,
-    ) -> Result<bool, AllocError>
-        requires now_in_range { now ≤ 2 ^ 62 }
-        ensures ok { IfOk result (λ is_noted. (is_noted, self.new) ≡ permit_noted request relays now self.old) }
-        ensures err { OnErr result (PermitWaits request relays now self.old self.new) }
+    /// The first request that needs a permission which is granted.
+    fn first_permitted(&self) -> Option<OpenRequest>
+        ensures { result ≡ first_permitted self.now }
     {
-        let permission = permission_for(request.key);
-        if self.is_granted(permission) {
-            self.take_permission(request.key, permission)?;
-            return Ok(true);
+        let requests = self.notes.book.requests();
+        match self.permitted_place(requests) {
+            Some(place) => Some(requests[place]),
+            None => None,
         }
-        if self.client.queued_requests() >= MAX_UNSENT {
-            return Ok(false);
-        }
-        self.make_permission(request, relays, now)?;
-        Ok(true)
+    }
+
+    /// The place of the first of these requests that needs a permission which is granted.
+    fn permitted_place(&self, requests: &[OpenRequest]) -> Option<usize>
+        ensures { result ≡ position (is_permitted self.now) requests.now }
+    {
+        requests
+            .iter()
+            .position(|request| self.is_permitted(request))
+    }
+
+    /// Whether the request needs a permission, which is granted.
+    fn is_permitted(&self, request: &OpenRequest) -> bool
+        ensures { result ≡ is_permitted self.now request.now }
+    {
+        matches!(request.progress, Progress::Unpermitted)
+            && self.is_granted(permission_for(request.key))
     }
 
     /// The permission for this key is granted: a channel has its outcome, and a data connection waits to be requested. A question
@@ -112,7 +109,7 @@ impl<C: TurnClientApi> NotedClient<C> {
     /// # Errors
     ///
     /// If memory allocation fails. The request waits on then.
-    fn make_permission(
+    pub(crate) fn make_permission(
         &mut self,
         request: OpenRequest,
         relays: TransportType,

@@ -3,7 +3,7 @@
 ghost use Rattle.std.specs.Prelude.{◌≡◌, ◌≤◌, ◌^◌, IfOk, IsSome, OnErr, OnOk};
 ghost use Rattle.turn_client_api.specs.Effect.{closed};
 ghost use Rattle.turn_client_api.specs.Transmit.{next_transmit};
-ghost use Rattle.turn_session_client.specs.Drain.{drained};
+ghost use Rattle.turn_session_client.specs.Drain.{DrainsSome};
 ghost use Rattle.turn_session_client.specs.Ending.{ended};
 ghost use Rattle.turn_session_client.specs.Polling.{AfterPoll, Closes, ExpiresOrGoesOn, IsCause, MakesOrPolls, Polls};
 ghost use Rattle.turn_session_client.specs.Polling.{PollsClient, PollsRunning, cause_noted, next_time, opened, prepared};
@@ -59,7 +59,7 @@ impl<C: TurnClientApi> NotedClient<C> {
     /// If memory allocation fails. Nothing is lost: what is left is noted by the next call.
     fn prepare(&mut self, now: Instant) -> Result<bool, AllocError>
         ensures ok { IfOk result (λ is_ending. (is_ending, self.new) ≡ prepared now self.old) }
-        ensures err { OnErr result (drained now self.new ≡ drained now self.old) }
+        ensures err { OnErr result (DrainsSome now self.old self.new) }
     {
         self.drain(now)?;
         self.note_opening();

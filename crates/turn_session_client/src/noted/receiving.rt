@@ -3,12 +3,13 @@
 ghost use Rattle.std.specs.Prelude.{◌≡◌, ◌≤◌, ◌^◌, Option, IfOk, OnErr, OnOk};
 ghost use Rattle.turn_client_api.specs.Answers.{HandsBack, RecvEnds, outcome_of};
 ghost use Rattle.turn_client_api.specs.Receive.{recv_step};
-ghost use Rattle.turn_session_client.specs.Drain.{drained};
+ghost use Rattle.turn_session_client.specs.Drain.{DrainsSome};
 ghost use Rattle.turn_session_client.specs.Reading.{IsReading};
 ghost use Rattle.turn_session_client.specs.declared.reading.Reading.{Reading};
 ghost use Rattle.turn_session_client.specs.Receiving.{Receives, answers_nothing, ended_with, heard_step, noted_response};
 ghost use Rattle.turn_session_client.specs.Receiving.{outcome_in, reply_for, received, with_hints};
 
+use crate::answering::is_channel_data;
 use crate::noted::NotedClient;
 use crate::reading::{
     Reading, hint_in, ignored_in, is_foreign, mapped_after, read, reply_in, response_to,
@@ -37,7 +38,7 @@ impl<C: TurnClientApi> NotedClient<C> {
     ///
     /// If memory allocation fails in the client, which has ended then, and the session with it. If it fails for the notes, `poll`
     /// notes the rest.
-    #[inline(always)]
+    #[inline]
     pub fn recv<T: AsSlice<u8> + Debug + Drop>(
         &mut self,
         transmit: Transmit<T>,
@@ -55,13 +56,15 @@ impl<C: TurnClientApi> NotedClient<C> {
         match self.life.phase {
             Phase::Over(_) => Ok(TurnRecvRet::Ignored(transmit)),
             Phase::Leaving(_) => self.pass_in(transmit, now),
+            _ if is_channel_data(transmit.payload.as_slice()) => self.hear_channel_data(
+                transmit, now,
+            ),
             _ if self.answers_nothing(&transmit) => Ok(TurnRecvRet::Ignored(transmit)),
             _ => self.hear(transmit, now),
         }
     }
 
     /// Whether it is a response over the control connection that answers nothing.
-    #[inline(always)]
     fn answers_nothing<T: AsSlice<u8> + Debug + Drop>(&self, transmit: &Transmit<T>) -> bool
         ensures { result ≡ answers_nothing transmit.now.to (T.items transmit.now.payload) self.now.client }
     {
@@ -70,7 +73,6 @@ impl<C: TurnClientApi> NotedClient<C> {
     }
 
     /// Reads it, passes it to the client, and notes what it says and what the client does.
-    #[inline(always)]
     fn hear<T: AsSlice<u8> + Debug + Drop>(
         &mut self,
         transmit: Transmit<T>,
@@ -81,8 +83,8 @@ impl<C: TurnClientApi> NotedClient<C> {
             ≡ (recv_step transmit.transport transmit.from transmit.to (T.items transmit.payload) now self.old.client).0) }
         ensures hands_back { IfOk result (HandsBack transmit) }
         ensures after { OnOk result ((reading : Option Reading) × IsReading (T.items transmit.payload) self.old.client reading
-            × (drained now self.new
-            ≡ drained now (heard_step transmit.transport transmit.from transmit.to (T.items transmit.payload) reading now self.old))) }
+            × DrainsSome now (heard_step transmit.transport transmit.from transmit.to (T.items transmit.payload) reading now self.old)
+            self.new) }
         ensures no_memory { OnErr result (RecvEnds transmit.to (T.items transmit.payload) now self.old.client self.new.client) }
         ensures ended { OnErr result (self.new ≡ ended_with self.new.client self.old) }
     {
@@ -97,7 +99,7 @@ impl<C: TurnClientApi> NotedClient<C> {
 
     /// Passes it to the client.
     #[inline(always)]
-    fn pass_in<T: AsSlice<u8> + Debug + Drop>(
+    pub(crate) fn pass_in<T: AsSlice<u8> + Debug + Drop>(
         &mut self,
         transmit: Transmit<T>,
         now: Instant,
@@ -123,7 +125,6 @@ impl<C: TurnClientApi> NotedClient<C> {
 
     /// The error of a response that the events of a client report that accepts it. While an earlier event is to be noted there is
     /// none: that one has the error before.
-    #[inline(always)]
     fn reply_for(&self, reading: Option<Reading>) -> Option<ErrorReply>
         ensures { result ≡ reply_for reading self.now }
     {
@@ -134,7 +135,6 @@ impl<C: TurnClientApi> NotedClient<C> {
     }
 
     /// Notes what was received: this response, if it is one, with this error, which the client has accepted or ignored.
-    #[inline]
     fn note_reading(
         &mut self,
         reading: Option<Reading>,
@@ -185,9 +185,9 @@ impl<C: TurnClientApi> NotedClient<C> {
     }
 
     /// Notes the events of the client if it handled a message. What memory is wanted for is noted by the next call.
-    #[inline(always)]
+    #[tactic(auto, using(crate::proofs::DrainLemmas::drains_none))]
     fn drain_if(&mut self, is_handled: bool, now: Instant)
-        ensures { drained now self.new ≡ drained now self.old }
+        ensures { DrainsSome now self.old self.new }
     {
         if is_handled {
             let _drained = self.drain(now);

@@ -1,7 +1,7 @@
 //! Data connections, which the caller opens and closes (RFC 6062, section 4.3).
 
 ghost use Rattle.std.specs.Prelude.{◌≡◌, ◌≤◌, ◌^◌, OnErr, OnOk};
-ghost use Rattle.turn_session_client.specs.Sockets.{FailsSocket, TakesSocket, closed_socket, settled_socket};
+ghost use Rattle.turn_session_client.specs.Sockets.{FailsSocket, TakesSocket, after_writing, closed_socket, settled_socket};
 
 use crate::noted::NotedClient;
 use std::alloc::AllocError;
@@ -89,6 +89,16 @@ impl<C: TurnClientApi> NotedClient<C> {
         let server = self.client.remote_addr();
         self.client.tcp_closed(local, server, now);
         Ok(())
+    }
+
+    /// Bytes of a data connection have left: the caller has written the last that it had now. If it leaves, the deletion of the
+    /// allocation waits for them. After the end nothing changes.
+    pub fn data_written(&mut self, now: Instant)
+        ensures { self.new ≡ after_writing now self.old }
+    {
+        if !matches!(self.life.phase, Phase::Over(_)) {
+            self.written = Some(now);
+        }
     }
 
     /// The outcome of a request for a data connection to this peer, if the client was asked for it.
