@@ -2,3 +2,4 @@ pub mod IdlePeers
 pub mod IdleState
 pub mod Usage
 pub mod Usages
+pub mod Used

@@ -2,13 +2,14 @@
 //! client and no IO: the caller passes in times, what is granted and which peers are used.
 //!
 //! ```text
-//!  data, or a request     -- used -----> IdlePeers  -- poll -----> keep this, release this, or a time
-//!  what the caller keeps  -- decided --> IdlePeers
+//!  data, or a request     -- used -----> UsedPeers  -- poll -----> keep this, release this, or a time
+//!  what the caller keeps  -- decided --> UsedPeers
 //! ```
 //!
-//! Begin with [`peers::IdlePeers`].
+//! Begin with [`peers::IdlePeers`], which [`used::UsedPeers`] keeps the last use apart from, so that a use costs little.
 #![tactic(auto)]
 
 pub mod peers;
 pub mod usage;
 mod usages;
+pub mod used;

@@ -1,6 +1,6 @@
 //! Idle peers.
 
-ghost use Rattle.std.specs.Prelude.{◌≡◌, nat_lt, false, true, IfOk, OnErr, OnOk};
+ghost use Rattle.std.specs.Prelude.{◌≡◌, is_some, nat_lt, false, true, IfOk, OnErr, OnOk};
 ghost use Rattle.std.specs.List.{position};
 ghost use Rattle.turn_session_idle.specs.IdlePeers.{after_decision, after_look, after_use, done_state, due_step, idle_step};
 ghost use Rattle.turn_session_idle.specs.IdlePeers.{look_pause, looks_now, no_peers, step_of};
@@ -62,6 +62,13 @@ impl IdlePeers {
             look: now,
             usages: Vec::new(alloc),
         }
+    }
+
+    /// Whether a peer may be idle.
+    pub fn is_on(&self) -> bool
+        ensures { result ≡ is_some self.now.idle }
+    {
+        self.idle.is_some()
     }
 
     /// The peer of this key is used: it is requested, or data came from this peer or is sent to it. With a channel or a data
