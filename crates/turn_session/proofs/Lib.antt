@@ -1,1 +1,4 @@
+pub mod ChannelDataLemmas
 pub mod FramingLemmas
+pub mod PollingLemmas
+pub mod UsesLemmas

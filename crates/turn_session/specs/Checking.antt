@@ -1,5 +1,6 @@
 -- Checks of the path that the caller asks for.
 use Rattle.std.specs.Prelude.{ℕ, ◌+◌, ◌%◌, ◌==◌, ◌^◌, if◌then◌else◌, List, Option, Some, None, Result, Ok, Err}
+use Rattle.std.specs.declared.net.socket_addr.SocketAddr.{SocketAddr}
 use Rattle.turn_stun.specs.declared.transport.Transmit.{Transmit}
 use Rattle.turn_stun.specs.declared.transport.TransportType.{TransportType}
 use Rattle.turn_stun.specs.declared.transport.TransportType.TheVariants.{Udp, Tcp}
@@ -15,6 +16,7 @@ use Rattle.turn_session_life.specs.Watch.{shared_ticket, watched_check}
 use Rattle.turn_session_path.specs.Path.{after_sending}
 use Rattle.turn_session_path.specs.PathResponses.{after_received}
 use Rattle.turn_session.specs.SessionState.{SessionState, with_noted, with_watch}
+use Rattle.turn_session.specs.Uses.{used_peer}
 
 -- the next ticket is used by a check that begins, and not by one that shares another's
 abbrev pub next_after : ℕ → ℕ → ℕ
@@ -46,14 +48,18 @@ told_path s = by s.received
 -- ---- what is sent
 
 -- over a stream, data that is sent delays responses
-abbrev pub data_sent : ℕ → SessionState → SessionState
-data_sent now s = by s.watch.path.transport
+abbrev pub response_delayed : ℕ → SessionState → SessionState
+response_delayed now s = by s.watch.path.transport
   where
     by : TransportType → SessionState
     by Udp = s
     by Tcp = with_watch (record s.watch { path = after_sending now s.watch.path }) s
 
--- what the client refuses to send delays none
-abbrev pub sent_after : ℕ → Result (Transmit (List ℕ)) SendError × NotedState → SessionState → SessionState
-sent_after now (Ok packet, noted) s = data_sent now (with_noted noted s)
-sent_after now (Err refusal, noted) s = with_noted noted s
+-- and it is a use of the peer
+abbrev pub data_sent : SocketAddr → ℕ → SessionState → SessionState
+data_sent to now s = used_peer to now (response_delayed now s)
+
+-- what the client refuses to send is neither
+abbrev pub sent_after : SocketAddr → ℕ → Result (Transmit (List ℕ)) SendError × NotedState → SessionState → SessionState
+sent_after to now (Ok packet, noted) s = data_sent to now (with_noted noted s)
+sent_after to now (Err refusal, noted) s = with_noted noted s

@@ -6,7 +6,7 @@ use Rattle.turn_client_api.specs.declared.poll.TurnPollRet.TheVariants.{WaitUnti
 use Rattle.turn_session_book.specs.declared.events.Event.{Event}
 use Rattle.turn_session.specs.Polling.{Polls}
 use Rattle.turn_session.specs.Reporting.{reported_step}
-use Rattle.turn_session.specs.Sending.{transmit_step}
+use Rattle.turn_session.specs.Sending.{EndsUnsent, transmit_step}
 use Rattle.turn_session.specs.SessionState.{SessionState}
 use Rattle.turn_session.specs.declared.due.Due.{Due}
 use Rattle.turn_session.specs.declared.due.Due.TheVariants as Next
@@ -40,3 +40,14 @@ due_after now answer s = (Next.Connection answer, s)
 abbrev pub IsNext : ℕ → SessionState → SessionState → Due → Type 0
 IsNext now was s due =
     (t : SessionState) × (answer : TurnPollRet) × Polls now was t answer × ((due, s) ≡ due_after now answer t)
+
+-- ---- without memory
+
+-- only a packet wants it, and that is looked for if there is no data connection to open or close
+abbrev pub DueFails : ℕ → TurnPollRet → SessionState → SessionState → Type 0
+DueFails now (WaitUntil time) was s = EndsUnsent now was s
+DueFails now Closed was s = EndsUnsent now was s
+DueFails now _ was s = ⊥
+
+abbrev pub NextFails : ℕ → SessionState → SessionState → Type 0
+NextFails now was s = (t : SessionState) × (answer : TurnPollRet) × Polls now was t answer × DueFails now answer t s

@@ -16,6 +16,7 @@ use Rattle.turn_session_client.specs.NotedState.{is_stream}
 use Rattle.turn_session_client.specs.Receiving.{ended_with}
 use Rattle.turn_session.specs.Receiving.{Ends, Receives, is_of_server, outcome_after, with_sign}
 use Rattle.turn_session.specs.SessionState.{SessionState, with_frames, with_noted}
+use Rattle.turn_session.specs.Uses.{used_by}
 
 -- for want of memory
 abbrev pub lost : SessionState → SessionState
@@ -105,12 +106,20 @@ PieceGives piece now was s outcome =
 
 -- ---- the call
 
-abbrev pub ReceivesBytes : TransportType → SocketAddr → SocketAddr → List ℕ → ℕ → SessionState → SessionState → Outcome → Type 0
-ReceivesBytes transport from to bytes now was s outcome = by (is_piece transport from to bytes was)
+abbrev pub BytesGive : TransportType → SocketAddr → SocketAddr → List ℕ → ℕ → SessionState → SessionState → Outcome → Type 0
+BytesGive transport from to bytes now was s outcome = by (is_piece transport from to bytes was)
   where
     by : Bool → Type 0
     by true = PieceGives bytes now was s outcome
     by false = (outcome ≡ outcome_after transport from to bytes now was) × Receives transport from to bytes now was s
+
+-- data of a peer is a use of it
+abbrev pub ReceivesBytes : TransportType → SocketAddr → SocketAddr → List ℕ → ℕ → SessionState → SessionState → Outcome → Type 0
+ReceivesBytes transport from to bytes now was s outcome =
+    (t : SessionState) × BytesGive transport from to bytes now was t outcome × (s ≡ used_by (payload_in outcome) now t)
+
+abbrev pub PollsData : ℕ → SessionState → SessionState → Option Payload → Type 0
+PollsData now was s payload = (t : SessionState) × TakesData now was t payload × (s ≡ used_by payload now t)
 
 -- ---- without memory, the session has ended
 

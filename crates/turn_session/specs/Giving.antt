@@ -17,7 +17,8 @@ use Rattle.turn_session_client.specs.Asking.{Requests}
 use Rattle.turn_session_client.specs.Ending.{is_over}
 use Rattle.turn_session_client.specs.Sending.{sent_step}
 use Rattle.turn_session.specs.Checking.{data_sent}
-use Rattle.turn_session.specs.SessionState.{SessionState, NotesAlone, with_noted}
+use Rattle.turn_session.specs.SessionState.{SessionState, with_noted}
+use Rattle.turn_session.specs.Uses.{NotesUse}
 use Rattle.turn_session.specs.declared.sent.SendRefusal.{SendRefusal}
 use Rattle.turn_session.specs.declared.sent.SendRefusal.TheVariants.{TooLong, Refused}
 use Rattle.turn_session.specs.declared.sent.Sent.{Sent}
@@ -30,13 +31,13 @@ is_longer Tcp max len = false
 
 -- ---- a packet
 
-abbrev pub GivesPacket : {T : Type 0} {g : Ghosts T ℕ} → TransportType → TransmitBuild (DelayedMessageOrChannelSend T g) → ℕ
+abbrev pub GivesPacket : {T : Type 0} {g : Ghosts T ℕ} → TransportType → SocketAddr → TransmitBuild (DelayedMessageOrChannelSend T g) → ℕ
     → Result (Sent T g) SendRefusal → SessionState → SessionState → Type 0
-GivesPacket transport packet now result was s = by (is_longer transport 65_507 (length (delayed_send_bytes packet.payload)))
+GivesPacket transport to packet now result was s = by (is_longer transport 65_507 (length (delayed_send_bytes packet.payload)))
   where
     by : Bool → Type 0
     by true = (result ≡ Err TooLong) × (s ≡ was)
-    by false = (result ≡ Ok (Packet packet)) × (s ≡ data_sent now was)
+    by false = (result ≡ Ok (Packet packet)) × (s ≡ data_sent to now was)
 
 -- this packet is what the machine sends
 abbrev pub IsPacket : {T : Type 0} {g : Ghosts T ℕ} → Result (Sent T g) SendRefusal → Transmit (List ℕ) → Type 0
@@ -46,20 +47,20 @@ IsPacket _ said = ⊥
 
 -- ---- a peer that is permitted
 
-abbrev pub GivesStep : {T : Type 0} {g : Ghosts T ℕ} → TransportType → ℕ → Result (Transmit (List ℕ)) SendError → SessionState
+abbrev pub GivesStep : {T : Type 0} {g : Ghosts T ℕ} → TransportType → SocketAddr → ℕ → Result (Transmit (List ℕ)) SendError → SessionState
     → Result (Sent T g) SendRefusal → SessionState → Type 0
-GivesStep transport now (Err refusal) t result s = (result ≡ Err (Refused refusal)) × (s ≡ t)
-GivesStep transport now (Ok packet) t result s = by (is_longer transport 65_507 (length packet.payload))
+GivesStep transport to now (Err refusal) t result s = (result ≡ Err (Refused refusal)) × (s ≡ t)
+GivesStep transport to now (Ok packet) t result s = by (is_longer transport 65_507 (length packet.payload))
   where
     by : Bool → Type 0
     by true = (result ≡ Err TooLong) × (s ≡ t)
-    by false = IsPacket result packet × (s ≡ data_sent now t)
+    by false = IsPacket result packet × (s ≡ data_sent to now t)
 
 -- the client makes the packet, and its next transaction ID may be used by one that is too long
 abbrev pub GivesPermitted : {T : Type 0} {g : Ghosts T ℕ} → TransportType → SocketAddr → List ℕ → ℕ → Result (Sent T g) SendRefusal
     → SessionState → SessionState → Type 0
 GivesPermitted transport to bytes now result was s =
-    let step = sent_step transport to bytes now was.noted in GivesStep transport now step.0 (with_noted step.1 was) result s
+    let step = sent_step transport to bytes now was.noted in GivesStep transport to now step.0 (with_noted step.1 was) result s
 
 -- ---- the call
 
@@ -67,7 +68,7 @@ GivesPermitted transport to bytes now result was s =
 abbrev pub IsRequested : {T : Type 0} {g : Ghosts T ℕ} → SocketAddr → ℕ → Result (Sent T g) SendRefusal → SessionState → SessionState → Type 0
 IsRequested to now result was s =
     (answer : Answer) × (result ≡ Ok (Requested answer)) × Requests (Permission (socket_ip to)) true now answer was.noted s.noted
-    × NotesAlone was s
+    × NotesUse (Permission (socket_ip to)) now was s
 
 abbrev pub is_permitted : TransportType → SocketAddr → SessionState → Bool
 is_permitted transport to s = not (is_over s.noted.life.phase) && can_send_to transport (socket_ip to) s.noted.client

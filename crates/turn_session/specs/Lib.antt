@@ -1,4 +1,5 @@
 pub mod Checking
+pub mod Counting
 pub mod Due
 pub mod Ending
 pub mod Framing
@@ -11,3 +12,4 @@ pub mod Reporting
 pub mod Sending
 pub mod SessionState
 pub mod Settings
+pub mod Uses

@@ -1,21 +1,26 @@
--- A session is polled: first the path, then the doubts of the allocation, and then the client.
-use Rattle.std.specs.Prelude.{◌≡◌, ℕ, min, Bool, true, false, Option, Some, None}
+-- A session is polled: first the path, then the doubts of the allocation, then what idle peers were granted, and then the client.
+use Rattle.std.specs.Prelude.{◌≡◌, ◌⊎◌, ℕ, min, Bool, true, false, Option, Some, None}
 use Rattle.turn_client_api.specs.declared.poll.TurnPollRet.{TurnPollRet}
 use Rattle.turn_client_api.specs.declared.poll.TurnPollRet.TheVariants.{WaitUntil}
 use Rattle.turn_session_client.specs.Doubting.{after_doubt, after_move}
 use Rattle.turn_session_client.specs.Doubting as Doubting
 use Rattle.turn_session_client.specs.Ending.{is_open, left_for}
+use Rattle.turn_session_client.specs.Keeping.{kept_while_running}
 use Rattle.turn_session_client.specs.Leaving.{shortage_end}
 use Rattle.turn_session_client.specs.Polling as Client
 use Rattle.turn_session_client.specs.declared.noted.doubting.DoubtsPoll.{DoubtsPoll}
 use Rattle.turn_session_client.specs.declared.noted.doubting.DoubtsPoll.TheVariants as Doubts
+use Rattle.turn_session_idle.specs.IdlePeers.{idle_step, looks_now}
+use Rattle.turn_session_idle.specs.IdleState.{IdleState}
+use Rattle.turn_session_idle.specs.declared.peers.IdleStep.{IdleStep}
+use Rattle.turn_session_idle.specs.declared.peers.IdleStep.TheVariants as Idle
 use Rattle.turn_session_life.specs.Watch.{after_opening, watch_step}
 use Rattle.turn_session_life.specs.declared.watch.Watch.{Watch}
 use Rattle.turn_session_life.specs.declared.watch.WatchStep.{WatchStep}
 use Rattle.turn_session_life.specs.declared.watch.WatchStep.TheVariants as Path
 use Rattle.turn_session_path.specs.PathDue.{sooner}
 use Rattle.turn_session.specs.Checking.{told_path}
-use Rattle.turn_session.specs.SessionState.{SessionState, NotesAlone, with_noted, with_watch}
+use Rattle.turn_session.specs.SessionState.{SessionState, NotesAlone, with_idle, with_noted, with_watch}
 
 -- a client that waits does so no longer than for this time
 abbrev pub capped : Option ℕ → TurnPollRet → TurnPollRet
@@ -53,12 +58,27 @@ watched now s = by s.is_watching
 abbrev pub begun : ℕ → SessionState → SessionState
 begun now s = told_path (watched now s)
 
+-- what an idle peer was granted is let go, and kept again when the peer is used
+abbrev pub IdleLeads : Option ℕ → ℕ → IdleStep × IdleState → SessionState → SessionState → TurnPollRet → Type 0
+IdleLeads own now (Idle.Keep key, after) was s answer =
+    (answer ≡ WaitUntil now) × (s ≡ with_noted (kept_while_running key true was.noted).1 (with_idle after was))
+IdleLeads own now (Idle.Release key, after) was s answer =
+    (answer ≡ WaitUntil now) × (s ≡ with_noted (kept_while_running key false was.noted).1 (with_idle after was))
+IdleLeads own now (Idle.WaitUntil time, after) was s answer = PollsBoth (sooner own (Some time)) now (with_idle after was) s answer
+IdleLeads own now (Idle.Off, after) was s answer = PollsBoth own now (with_idle after was) s answer
+
+-- a look for which memory was wanted is tried again
+abbrev pub PollsIdle : Option ℕ → ℕ → SessionState → SessionState → TurnPollRet → Type 0
+PollsIdle own now was s answer =
+    IdleLeads own now (idle_step was.noted.notes.book.held now was.idle) was s answer
+    ⊎ ((looks_now now was.idle ≡ true) × PollsBoth (sooner own (Some (shortage_end now))) now was s answer)
+
 -- a doubt that could not be asked of, since memory was wanted, is tried again
 abbrev pub DoubtsLead : Option ℕ → ℕ → DoubtsPoll → SessionState → SessionState → TurnPollRet → Type 0
 DoubtsLead path now Doubts.Now t s answer = (answer ≡ WaitUntil now) × (s ≡ t)
-DoubtsLead path now (Doubts.WaitUntil time) t s answer = PollsBoth (sooner path (Some time)) now t s answer
-DoubtsLead path now Doubts.Idle t s answer = PollsBoth path now t s answer
-DoubtsLead path now Doubts.NoMemory t s answer = PollsBoth (sooner path (Some (shortage_end now))) now t s answer
+DoubtsLead path now (Doubts.WaitUntil time) t s answer = PollsIdle (sooner path (Some time)) now t s answer
+DoubtsLead path now Doubts.Idle t s answer = PollsIdle path now t s answer
+DoubtsLead path now Doubts.NoMemory t s answer = PollsIdle (sooner path (Some (shortage_end now))) now t s answer
 
 abbrev pub PollsDoubts : Option ℕ → ℕ → SessionState → SessionState → TurnPollRet → Type 0
 PollsDoubts path now was s answer =

@@ -8,8 +8,9 @@ use Rattle.turn_session_client.specs.Ending.{ended, is_open}
 use Rattle.turn_session_client.specs.NotedState.{NotedState}
 use Rattle.turn_session_client.specs.Polling.{transmitted}
 use Rattle.turn_session_life.specs.declared.watch.OwnRequest.{OwnRequest}
+use Rattle.turn_session.specs.Counting.{counted}
 use Rattle.turn_session.specs.PathMessages.{request_bytes}
-use Rattle.turn_session.specs.SessionState.{SessionState, with_noted, with_watch}
+use Rattle.turn_session.specs.SessionState.{SessionState, with_counts, with_noted, with_watch}
 
 abbrev pub own_packet : OwnRequest → State → Transmit (List ℕ)
 own_packet r client =
@@ -23,13 +24,13 @@ own_step s = by (is_open s.noted.life.phase) s.watch.outbox
     by true (Some r) = (Some (own_packet r s.noted.client), with_watch (record s.watch { outbox = None }) s)
     by _ _ = (None, s)
 
--- those of the client come first
-abbrev pub or_own : SessionState → Option (Transmit (List ℕ)) × NotedState → Option (Transmit (List ℕ)) × SessionState
-or_own s (Some packet, noted) = (Some packet, with_noted noted s)
-or_own s (None, noted) = own_step (with_noted noted s)
+-- those of the client come first, and its requests are counted
+abbrev pub or_own : ℕ → SessionState → Option (Transmit (List ℕ)) × NotedState → Option (Transmit (List ℕ)) × SessionState
+or_own now s (Some packet, noted) = (Some packet, with_counts (counted packet.payload now noted.client s.counts) (with_noted noted s))
+or_own now s (None, noted) = own_step (with_noted noted s)
 
 abbrev pub transmit_step : ℕ → SessionState → Option (Transmit (List ℕ)) × SessionState
-transmit_step now s = or_own s (transmitted now s.noted)
+transmit_step now s = or_own now s (transmitted now s.noted)
 
 -- ---- without memory
 

@@ -1,12 +1,15 @@
--- A session: its client with what is noted of it, the checks of the path, and the stream to the server.
+-- A session: its client with what is noted of it, the checks of the path, the stream to the server, and the uses of peers.
 use Rattle.std.specs.Prelude.{◌≡◌, ℕ, Bool, false, List, [], Option, None}
 use Rattle.std.specs.Duration.{as_nanos}
 use Rattle.turn_types.specs.Streams.{Stream, framed}
 use Rattle.turn_client_api.specs.State.{State}
+use Rattle.turn_session_counts.specs.Counts.{CountsState, no_requests}
 use Rattle.turn_session_client.specs.NotedState.{NotedState, new_noted}
+use Rattle.turn_session_idle.specs.IdlePeers.{no_peers}
+use Rattle.turn_session_idle.specs.IdleState.{IdleState}
 use Rattle.turn_session_life.specs.Watch.{watching}
 use Rattle.turn_session_life.specs.declared.watch.Watch.{Watch}
-use Rattle.turn_session.specs.Settings.{probe_nanos}
+use Rattle.turn_session.specs.Settings.{time_nanos}
 use Rattle.turn_session.specs.declared.settings.SessionSettings.{SessionSettings}
 
 pub record SessionState : Type 0 where
@@ -24,16 +27,22 @@ pub record SessionState : Type 0 where
   pub received : Option ℕ
   -- the ticket of the next check of the caller
   pub next_check : ℕ
+  -- the requests that were sent, in numbers
+  pub counts : CountsState
+  -- when the peers were used last
+  pub idle : IdleState
 
 abbrev pub new_session : SessionSettings → List ℕ → ℕ → State → SessionState
 new_session settings seed now client = record {
   noted = new_noted settings.checks_allocation (as_nanos settings.leave_wait) now client;
   frames = framed [];
   watch = watching client.transport None (record { seed = seed; place = 0 }) now;
-  probe = probe_nanos settings.probe;
+  probe = time_nanos settings.probe;
   is_watching = false;
   received = None;
   next_check = 1;
+  counts = no_requests;
+  idle = no_peers (time_nanos settings.idle) now;
 }
 
 abbrev pub with_noted : NotedState → SessionState → SessionState
@@ -44,6 +53,12 @@ with_frames frames s = record s { frames = frames }
 
 abbrev pub with_watch : Watch → SessionState → SessionState
 with_watch watch s = record s { watch = watch }
+
+abbrev pub with_counts : CountsState → SessionState → SessionState
+with_counts counts s = record s { counts = counts }
+
+abbrev pub with_idle : IdleState → SessionState → SessionState
+with_idle idle s = record s { idle = idle }
 
 -- nothing but its client has changed, and what is noted of that
 abbrev pub NotesAlone : SessionState → SessionState → Type 0

@@ -18,9 +18,9 @@ pub record AreDefault (transport : TransportType) (s : SessionSettings) : Type 0
   pub no_peer_is_idle : s.idle ≡ None
   pub leaves_in_2_s : as_nanos s.leave_wait ≡ 2_000_000_000
 
--- the time between two probes, in nanoseconds: without any there are none, since they would follow each other without a pause
+-- a time in nanoseconds: no time at all is none, since probes and looks would follow each other without a pause
 abbrev pub if_above_zero : ℕ → Option ℕ
 if_above_zero nanos = if nanos == 0 then None else Some nanos
 
-abbrev pub probe_nanos : Option Duration → Option ℕ
-probe_nanos probe = option_and_then (λ time. if_above_zero (min (as_nanos time) (2 ^ 64 - 1))) probe
+abbrev pub time_nanos : Option Duration → Option ℕ
+time_nanos time = option_and_then (λ t. if_above_zero (min (as_nanos t) (2 ^ 64 - 1))) time

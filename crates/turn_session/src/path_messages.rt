@@ -2,11 +2,11 @@
 
 ghost use Rattle.std.specs.Prelude.{◌≡◌, IfOk};
 ghost use Rattle.turn_session.specs.PathMessages.{text_in, method_number, request_bytes, response_in};
-ghost use Rattle.turn_session_client.specs.Answering.{is_channel_data};
 
 use std::alloc::{AllocError, Global};
 use std::net::SocketAddr;
 use turn_hints::mapped_address_of;
+use turn_session_client::is_channel_data;
 use turn_session_life::watch::OwnRequest;
 use turn_session_path::round::CheckRequest;
 use turn_stun::data::Data;
@@ -39,16 +39,6 @@ pub(crate) fn response_in(bytes: &[u8]) -> Option<PathText>
     match Message::from_bytes(bytes) {
         Ok(message) => text_of(&message),
         Err(_) => None,
-    }
-}
-
-/// Whether these bytes begin with ChannelData or nothing known, and not with a message (RFC 8656, section 12).
-fn is_channel_data(bytes: &[u8]) -> bool
-    ensures { result ≡ is_channel_data bytes.now }
-{
-    match bytes.first() {
-        Some(first) => 64 <= *first && *first < 128,
-        None => false,
     }
 }
 

@@ -2,10 +2,12 @@
 
 ghost use Rattle.std.specs.Prelude.{◌≡◌};
 ghost use Rattle.turn_session.specs.SessionState.{new_session};
-ghost use Rattle.turn_session.specs.Settings.{probe_nanos};
+ghost use Rattle.turn_session.specs.Settings.{time_nanos};
 
 mod asking;
+mod channel_data;
 mod checking;
+mod counting;
 mod data;
 mod ending;
 mod frames;
@@ -17,6 +19,7 @@ mod receiving;
 mod reporting;
 mod sending;
 mod sockets;
+mod uses;
 
 use crate::settings::SessionSettings;
 use std::alloc::Global;
@@ -25,12 +28,15 @@ use std::time::Duration;
 use turn_agent::NumberSource;
 use turn_client_api::TurnClientApi;
 use turn_session_client::noted::NotedClient;
+use turn_session_counts::counts::RequestCounts;
+use turn_session_idle::used::UsedPeers;
 use turn_session_life::watch::Watch;
 use turn_stun::instant::Instant;
 use turn_types::tcp::TurnTcpBuffer;
 
-/// A client from its first request to its end: the requests of the caller, which have one outcome each, what was granted, whether the
-/// path to the server carries packets, whether the server still knows the allocation, and why the session ends.
+/// A client from its first request to its end: the requests of the caller, which have one outcome each, what was granted, and whether
+/// its peers are idle, whether the path to the server carries packets, whether the server still knows the allocation, and why the
+/// session ends.
 ///
 /// Contracts describe it by its `SessionState`.
 #[derive(Debug, Drop)]
@@ -47,6 +53,9 @@ pub struct Session<C: TurnClientApi> {
     /// When something was last received that the path was not told of. So data of a peer costs a store.
     received: Option<Instant>,
     next_check: u32,
+    counts: RequestCounts,
+    /// When the peers were used last, and what is let go since they are idle.
+    idle: UsedPeers,
 }
 
 impl<C: TurnClientApi> Model for Session<C> {
@@ -62,6 +71,8 @@ impl<C: TurnClientApi> Model for Session<C> {
       is_watching = s.is_watching;
       received = s.received;
       next_check = s.next_check;
+      counts = s.counts;
+      idle = s.idle;
     } };
 }
 
@@ -95,6 +106,8 @@ impl<C: TurnClientApi> Session<C> {
             is_watching: false,
             received: None,
             next_check: 1,
+            counts: RequestCounts::new(),
+            idle: UsedPeers::new(alloc, nanos_of(settings.idle), now),
         }
     }
 
@@ -106,10 +119,10 @@ impl<C: TurnClientApi> Session<C> {
     }
 }
 
-/// The time between two probes in nanoseconds, of which 2^64 - 1 are the most. Without time between them there are none.
-fn nanos_of(probe: Option<Duration>) -> Option<u64>
-    ensures { result ≡ probe_nanos probe }
+/// The time in nanoseconds, of which 2^64 - 1 are the most. No time at all is none.
+fn nanos_of(time: Option<Duration>) -> Option<u64>
+    ensures { result ≡ time_nanos time }
 {
-    let nanos = u64::try_from(probe?.as_nanos()).unwrap_or(u64::MAX);
+    let nanos = u64::try_from(time?.as_nanos()).unwrap_or(u64::MAX);
     if nanos == 0 { None } else { Some(nanos) }
 }

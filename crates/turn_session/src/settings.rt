@@ -15,7 +15,8 @@ pub struct SessionSettings {
     /// Whether the server is asked if it still knows the allocation, after an error of the socket or a check without a
     /// response.
     pub checks_allocation: bool,
-    /// A peer without data for so long, in and out, is released, or `None` for never.
+    /// A peer without data for so long, in and out, is let go, or `None` or no time at all for never. Data, or a request, keeps it
+    /// again. It is looked for such peers four times in that time.
     pub idle: Option<Duration>,
     /// How long leaving takes at most.
     pub leave_wait: Duration,

@@ -1,7 +1,7 @@
 //! Requests of the caller, and what it keeps.
 
 ghost use Rattle.std.specs.Prelude.{◌≡◌, ◌≤◌, ◌^◌};
-ghost use Rattle.turn_session.specs.SessionState.{NotesAlone, with_noted};
+ghost use Rattle.turn_session.specs.Uses.{NotesUse, kept_after};
 ghost use Rattle.turn_session_client.specs.Asking.{Requests, grant_of, keep_result};
 ghost use Rattle.turn_session_client.specs.Ending.{may_be_kept_until};
 ghost use Rattle.turn_session_client.specs.Keeping.{kept_while_running};
@@ -14,7 +14,8 @@ use turn_session_book::keys::Key;
 use turn_stun::instant::Instant;
 
 impl<C: TurnClientApi> Session<C> {
-    /// Requests this key. What was granted and let go is kept again. A request for data is not made while the key rests.
+    /// Requests this key, which is a use of its peer. What was granted and let go is kept again. A request for data is not made while
+    /// the key rests.
     ///
     /// With a ticket the request has begun, and an event reports its outcome under that ticket, once. It is that of an earlier
     /// request of the same key that is under way. At most eight requests of the client are queued at a time, and the others wait
@@ -26,12 +27,14 @@ impl<C: TurnClientApi> Session<C> {
     pub fn request(&mut self, key: Key, is_for_data: bool, now: Instant) -> Answer
         requires now_in_range { now ≤ 2 ^ 62 }
         ensures answer { Requests key is_for_data now result self.old.noted self.new.noted }
-        ensures rest { NotesAlone self.old self.new }
+        ensures rest { NotesUse key now self.old self.new }
     {
+        self.idle.used(key, now);
         self.noted.request(key, is_for_data, now)
     }
 
-    /// Says whether this key is kept, so that it is refreshed. It is until the caller says otherwise.
+    /// Says whether this key is kept, so that it is refreshed. It is until the caller says otherwise, or its peer is idle. What the
+    /// caller lets go stays so when the peer is used.
     ///
     /// # Errors
     ///
@@ -39,9 +42,11 @@ impl<C: TurnClientApi> Session<C> {
     /// changes then.
     pub fn set_kept(&mut self, key: Key, is_kept: bool) -> Result<(), CallError>
         ensures answer { result ≡ keep_result (kept_while_running key is_kept self.old.noted).0 }
-        ensures after { self.new ≡ with_noted (kept_while_running key is_kept self.old.noted).1 self.old }
+        ensures after { self.new ≡ kept_after key (kept_while_running key is_kept self.old.noted) self.old }
     {
-        self.noted.set_kept(key, is_kept)
+        self.noted.set_kept(key, is_kept)?;
+        self.idle.decided(key);
+        Ok(())
     }
 
     /// What was granted and has not ended, in the order in which it was granted, and whether the caller keeps it. A permission

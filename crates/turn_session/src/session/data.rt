@@ -6,7 +6,7 @@ ghost use Rattle.turn_client_api.specs.Answers.{IsSent};
 ghost use Rattle.turn_client_api.specs.Calls.{can_send_to};
 ghost use Rattle.turn_session_client.specs.Ending.{is_over};
 ghost use Rattle.turn_session_client.specs.Sending.{sent_step};
-ghost use Rattle.turn_session.specs.Checking.{data_sent, sent_after};
+ghost use Rattle.turn_session.specs.Checking.{data_sent, response_delayed, sent_after};
 
 use crate::session::Session;
 use std::convert::AsSlice;
@@ -24,8 +24,8 @@ impl<C: TurnClientApi> Session<C> {
         self.noted.have_permission(transport, to)
     }
 
-    /// The packet that carries the data to this peer, as the client makes it. Over a stream to the server responses may be late from
-    /// now on, for which checks of the path allow.
+    /// The packet that carries the data to this peer, as the client makes it, which is a use of the peer. Over a stream to the server
+    /// responses may be late from now on, for which checks of the path allow.
     ///
     /// # Errors
     ///
@@ -40,16 +40,24 @@ impl<C: TurnClientApi> Session<C> {
         requires now_in_range { now ≤ 2 ^ 62 }
         requires short { self.old.noted.client.config.allocation_transport ≡ Udp → length (T.items «data») ≤ 65504 }
         ensures answer { IsSent result (sent_step transport to (T.items «data») now self.old.noted).0 }
-        ensures after { self.new ≡ sent_after now (sent_step transport to (T.items «data») now self.old.noted) self.old }
+        ensures after { self.new ≡ sent_after to now (sent_step transport to (T.items «data») now self.old.noted) self.old }
     {
         let packet = self.noted.send_to(transport, to, data, now)?;
-        self.note_sending(now);
+        self.note_sending(to, now);
         Ok(packet)
     }
 
+    /// Data is sent to this peer, which is a use of it.
+    pub(crate) fn note_sending(&mut self, to: SocketAddr, now: Instant)
+        ensures { self.new ≡ data_sent to now self.old }
+    {
+        self.allow_for_data(now);
+        self.use_peer(to, now);
+    }
+
     /// Data is sent: over a stream the path allows for it.
-    pub(crate) fn note_sending(&mut self, now: Instant)
-        ensures { self.new ≡ data_sent now self.old }
+    fn allow_for_data(&mut self, now: Instant)
+        ensures { self.new ≡ response_delayed now self.old }
     {
         match self.watch.path.transport {
             TransportType::Udp => {}

@@ -17,6 +17,9 @@ impl<C: TurnClientApi> Session<C> {
     /// confirmed that, or after the wait of its settings. It ends at once if the server can't have granted an allocation: before it
     /// has challenged, and after it has refused by an error that is not signed. Call `poll` then, as after any call.
     ///
+    /// The deletion waits until 1 s after bytes of a data connection have left (`data_written`), but at most half of that wait: a server
+    /// drops what it has not passed on to the peer.
+    ///
     /// A session that leaves or has ended goes on with that.
     pub fn leave(&mut self, now: Instant)
         ensures { self.new ≡ with_noted (left now self.old.noted) self.old }

@@ -187,7 +187,7 @@ impl<C: TurnClientApi> Session<C> {
     ///
     /// If memory allocation fails. The session has ended then: the data is lost.
     fn copied<T: AsSlice<u8>>(&mut self, data: &TurnPeerData<T>) -> Result<Given, AllocError>
-        ensures given { IfOk result (λ given. given_outcome given ≡ owned (PeerData (given_payload data.now))) }
+        ensures given { IfOk result (λ given. given_outcome given ≡ owned (PeerData (given_payload «data».now))) }
         ensures ok { OnOk result (self.new ≡ self.old) }
         ensures err { OnErr result (self.new ≡ lost self.old) }
     {

@@ -1,15 +1,17 @@
 //! A stream to the server, which is cut into frames here, so that each is received by itself.
 
-ghost use Rattle.std.specs.Prelude.{◌≡◌, ◌≤◌, ◌^◌, option_map, IfOk, IsNone, OnErr, OnOk};
+ghost use Rattle.std.specs.Prelude.{◌≡◌, ◌≤◌, ◌^◌, true, option_map, IfOk, IsNone, IsOk, OnErr, OnOk};
 ghost use Rattle.turn_types.specs.Streams.{broken_stream};
 ghost use Rattle.turn_client_api.specs.Answers.{HandsBack, given_payload, outcome_of};
-ghost use Rattle.turn_session.specs.Framing.{DataFails, FollowingFails, Follows, OrData, PieceFails, PieceGives, ReceivesBytes, ReceivingFails};
-ghost use Rattle.turn_session.specs.Framing.{TakesData, WaitsForMore, fed, is_piece, lost};
+ghost use Rattle.turn_session.specs.Framing.{BytesGive, DataFails, FollowingFails, Follows, OrData, PieceFails, PieceGives, PollsData};
+ghost use Rattle.turn_session.specs.Framing.{ReceivesBytes, ReceivingFails, TakesData, WaitsForMore, fed, is_piece, lost};
 ghost use Rattle.turn_session.specs.Given.{given_data, given_outcome};
+ghost use Rattle.turn_session.specs.Receiving.{is_channel_datagram};
 ghost use Rattle.turn_session.specs.SessionState.{with_frames};
 
 use crate::given::{Given, PeerBytes};
 use crate::session::Session;
+use crate::session::channel_data::is_channel_datagram;
 use std::alloc::AllocError;
 use std::convert::AsSlice;
 use std::fmt::Debug;
@@ -27,6 +29,8 @@ impl<C: TurnClientApi> Session<C> {
     /// kept, and `Handled`. Bytes that begin no frame end the session: nothing can be read from such a stream any more. Call `poll_recv`
     /// then until it returns none: more frames may wait. Data connections are not cut.
     ///
+    /// Data of a peer is a use of it, so that it is not idle.
+    ///
     /// A response to a request of the path is none for the client. Another one is read before the client ends its request, so that an
     /// event reports an error with the outcome, and the session knows why it ends. One that has another method than the request with its
     /// ID answers nothing, and is returned before the client takes it: the request still awaits its response.
@@ -34,7 +38,9 @@ impl<C: TurnClientApi> Session<C> {
     /// # Errors
     ///
     /// If memory allocation fails: in the client, which has ended then, for the bytes of a stream to the server, or for data behind its
-    /// first frame. The session has ended then. If it fails for what is noted, `poll` notes the rest.
+    /// first frame. The session has ended then. If it fails for what is noted, `poll` notes the rest. A datagram that begins as
+    /// ChannelData does needs none (RFC 8656, section 12.4).
+    #[inline(always)]
     pub fn recv<T: AsSlice<u8> + Debug + Drop>(
         &mut self,
         transmit: Transmit<T>,
@@ -42,6 +48,46 @@ impl<C: TurnClientApi> Session<C> {
     ) -> Result<TurnRecvRet<T>, AllocError>
         requires now_in_range { now ≤ 2 ^ 62 }
         ensures answer { IfOk result (λ answer. ReceivesBytes transmit.transport transmit.from transmit.to (T.items transmit.payload) now
+            self.old self.new (outcome_of answer)) }
+        ensures hands_back { IfOk result (HandsBack transmit) }
+        ensures no_memory { OnErr result (ReceivingFails transmit.transport transmit.from transmit.to (T.items transmit.payload) now
+            self.old self.new) }
+        ensures free { is_channel_datagram transmit.transport (T.items transmit.payload) ≡ true → IsOk result }
+    {
+        let answer = self.recv_bytes(transmit, now);
+        self.note_use(&answer, now);
+        answer
+    }
+
+    /// What `recv` does, but for the use of a peer that it notes.
+    #[inline(always)]
+    fn recv_bytes<T: AsSlice<u8> + Debug + Drop>(
+        &mut self,
+        transmit: Transmit<T>,
+        now: Instant,
+    ) -> Result<TurnRecvRet<T>, AllocError>
+        requires now_in_range { now ≤ 2 ^ 62 }
+        ensures answer { IfOk result (λ answer. BytesGive transmit.transport transmit.from transmit.to (T.items transmit.payload) now
+            self.old self.new (outcome_of answer)) }
+        ensures hands_back { IfOk result (HandsBack transmit) }
+        ensures no_memory { OnErr result (ReceivingFails transmit.transport transmit.from transmit.to (T.items transmit.payload) now
+            self.old self.new) }
+        ensures free { is_channel_datagram transmit.transport (T.items transmit.payload) ≡ true → IsOk result }
+    {
+        if is_channel_datagram(&transmit) {
+            return self.recv_channel_datagram(transmit, now);
+        }
+        self.recv_other(transmit, now)
+    }
+
+    /// What `recv` does with all but datagrams that begin as ChannelData does.
+    fn recv_other<T: AsSlice<u8> + Debug + Drop>(
+        &mut self,
+        transmit: Transmit<T>,
+        now: Instant,
+    ) -> Result<TurnRecvRet<T>, AllocError>
+        requires now_in_range { now ≤ 2 ^ 62 }
+        ensures answer { IfOk result (λ answer. BytesGive transmit.transport transmit.from transmit.to (T.items transmit.payload) now
             self.old self.new (outcome_of answer)) }
         ensures hands_back { IfOk result (HandsBack transmit) }
         ensures no_memory { OnErr result (ReceivingFails transmit.transport transmit.from transmit.to (T.items transmit.payload) now
@@ -54,20 +100,23 @@ impl<C: TurnClientApi> Session<C> {
         }
     }
 
-    /// The next data of a peer: in the client's streams, or in a frame of the stream to the server. All other frames before it are
-    /// received; ICMP reports among them are dropped. After the end of the session frames are dropped too.
+    /// The next data of a peer, which is a use of it: in the client's streams, or in a frame of the stream to the server. All other
+    /// frames before it are received; ICMP reports among them are dropped. After the end of the session frames are dropped too.
     ///
     /// # Errors
     ///
     /// If memory allocation fails, as that of `recv`. The session has ended then.
     pub fn poll_recv(&mut self, now: Instant) -> Result<Option<TurnPeerData<Vec<u8>>>, AllocError>
         requires now_in_range { now ≤ 2 ^ 62 }
-        ensures answer { IfOk result (λ given. TakesData now self.old self.new (option_map given_payload given)) }
+        ensures answer { IfOk result (λ given. PollsData now self.old self.new (option_map given_payload given)) }
         ensures little { IfOk result (λ given. IsNone given → WaitsForMore self.new) }
         ensures no_memory { OnErr result (DataFails now self.old self.new) }
     {
         match self.next_data(now)? {
-            Some(data) => Ok(Some(data.into_data())),
+            Some(data) => {
+                self.use_peer(data.peer, now);
+                Ok(Some(data.into_data()))
+            }
             None => Ok(None),
         }
     }

@@ -61,7 +61,7 @@ impl<C: TurnClientApi> Session<C> {
         ensures { GivesPermitted transport to (T.items «data») now result self.old self.new }
     {
         match self.noted.send_to(transport, to, data, now) {
-            Ok(Some(packet)) => self.give(transport, packet, now),
+            Ok(Some(packet)) => self.give(transport, to, packet, now),
             Ok(None) => unreachable!(),
             Err(refusal) => Err(SendRefusal::Refused(refusal)),
         }
@@ -75,15 +75,16 @@ impl<C: TurnClientApi> Session<C> {
     fn give<T: AsSlice<u8> + Debug + Drop>(
         &mut self,
         transport: TransportType,
+        to: SocketAddr,
         packet: TransmitBuild<DelayedMessageOrChannelSend<T>>,
         now: Instant,
     ) -> Result<Sent<T>, SendRefusal>
-        ensures { GivesPacket transport packet now result self.old self.new }
+        ensures { GivesPacket transport to packet now result self.old self.new }
     {
         if is_too_long(transport, MAX_MESSAGE, packet.payload.len()) {
             return Err(SendRefusal::TooLong);
         }
-        self.note_sending(now);
+        self.note_sending(to, now);
         Ok(Sent::Packet(packet))
     }
 }

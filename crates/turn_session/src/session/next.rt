@@ -1,7 +1,8 @@
 //! What is due next, by one call.
 
-ghost use Rattle.std.specs.Prelude.{◌≡◌, ◌≤◌, ◌^◌, IfOk};
-ghost use Rattle.turn_session.specs.Due.{IsNext, due_after, event_or, packet_or, rest_of};
+ghost use Rattle.std.specs.Prelude.{◌≡◌, ◌≤◌, ◌^◌, IfOk, OnErr};
+ghost use Rattle.turn_session.specs.Due.{DueFails, IsNext, NextFails, due_after, event_or, packet_or, rest_of};
+ghost use Rattle.turn_session.specs.Sending.{EndsUnsent};
 
 use crate::due::Due;
 use crate::session::Session;
@@ -19,7 +20,8 @@ impl<C: TurnClientApi> Session<C> {
     /// If memory allocation fails for a packet, as that of `poll_transmit`. Call it again.
     pub fn next(&mut self, now: Instant) -> Result<Due, AllocError>
         requires now_in_range { now ≤ 2 ^ 62 }
-        ensures { IfOk result (λ due. IsNext now self.old self.new due) }
+        ensures due { IfOk result (λ due. IsNext now self.old self.new due) }
+        ensures no_memory { OnErr result (NextFails now self.old self.new) }
     {
         let answer = self.poll(now);
         self.due_after(answer, now)
@@ -28,7 +30,8 @@ impl<C: TurnClientApi> Session<C> {
     /// What is due after this answer of `poll`.
     fn due_after(&mut self, answer: TurnPollRet, now: Instant) -> Result<Due, AllocError>
         requires now_in_range { now ≤ 2 ^ 62 }
-        ensures { IfOk result (λ due. (due, self.new) ≡ due_after now answer self.old) }
+        ensures due { IfOk result (λ due. (due, self.new) ≡ due_after now answer self.old) }
+        ensures no_memory { OnErr result (DueFails now answer self.old self.new) }
     {
         match answer {
             TurnPollRet::WaitUntil(_) | TurnPollRet::Closed => self.packet_or(answer, now),
@@ -39,7 +42,8 @@ impl<C: TurnClientApi> Session<C> {
     /// A packet, or else an event, or else what this answer says.
     fn packet_or(&mut self, answer: TurnPollRet, now: Instant) -> Result<Due, AllocError>
         requires now_in_range { now ≤ 2 ^ 62 }
-        ensures { IfOk result (λ due. (due, self.new) ≡ packet_or now answer self.old) }
+        ensures due { IfOk result (λ due. (due, self.new) ≡ packet_or now answer self.old) }
+        ensures no_memory { OnErr result (EndsUnsent now self.old self.new) }
     {
         match self.poll_transmit(now)? {
             Some(packet) => Ok(Due::Packet(packet)),

@@ -1,21 +1,28 @@
 //! What is due.
 
 ghost use Rattle.std.specs.Prelude.{◌≡◌, ◌≤◌, ◌^◌};
-ghost use Rattle.turn_session.specs.Polling.{DoubtsLead, PollsBoth, PollsDoubts, PollsOpen, Polls, PollsUnopened, begun, capped};
+ghost use Rattle.turn_client_api.specs.declared.poll.TurnPollRet.TheVariants.{WaitUntil};
+ghost use Rattle.turn_session_client.specs.Keeping.{kept_while_running};
+ghost use Rattle.turn_session_client.specs.Leaving.{shortage_end};
+ghost use Rattle.turn_session.specs.Polling.{DoubtsLead, IdleLeads, PollsBoth, PollsDoubts, PollsIdle, PollsOpen, Polls, PollsUnopened};
+ghost use Rattle.turn_session.specs.Polling.{begun, capped};
+ghost use Rattle.turn_session.specs.SessionState.{with_noted};
 
 use crate::session::Session;
 use std::time::Duration;
 use turn_client_api::{TurnClientApi, TurnPollRet};
+use turn_session_book::keys::Key;
 use turn_session_client::constants::SHORTAGE;
 use turn_session_client::noted::doubting::DoubtsPoll;
+use turn_session_idle::peers::IdleStep;
 use turn_session_life::watch::WatchStep;
 use turn_session_path::path::sooner;
 use turn_stun::instant::Instant;
 
 impl<C: TurnClientApi> Session<C> {
-    /// Does what is due: notes what has happened in the client, makes a request that waits, checks path and allocation, and polls the
-    /// client. If the time that it returns is not in the future, call it again, and `poll_event` and `poll_transmit` before. It returns
-    /// `Closed` when the session has ended, and an event says why.
+    /// Does what is due: notes what has happened in the client, makes a request that waits, checks path and allocation, lets go what
+    /// idle peers were granted, or keeps it again, and polls the client. If the time that it returns is not in the future, call it
+    /// again, and `poll_event` and `poll_transmit` before. It returns `Closed` when the session has ended, and an event says why.
     ///
     /// If memory allocation fails for what is noted or made, nothing is lost, and the next call is asked for after 100 ms. If it
     /// fails in the client, the client has ended, and the session with it.
@@ -95,13 +102,44 @@ impl<C: TurnClientApi> Session<C> {
     {
         match said {
             DoubtsPoll::Now => TurnPollRet::WaitUntil(now),
-            DoubtsPoll::WaitUntil(time) => self.poll_both(sooner(path, Some(time)), now),
-            DoubtsPoll::Idle => self.poll_both(path, now),
-            DoubtsPoll::NoMemory => {
-                let again = now.plus(Duration::from_nanos(SHORTAGE));
-                self.poll_both(sooner(path, Some(again)), now)
-            }
+            DoubtsPoll::WaitUntil(time) => self.poll_idle(sooner(path, Some(time)), now),
+            DoubtsPoll::Idle => self.poll_idle(path, now),
+            DoubtsPoll::NoMemory => self.poll_idle(sooner(path, Some(shortage_end(now))), now),
         }
+    }
+
+    /// Looks for idle peers, and polls the client, unless a grant is to be let go or kept again. Path and doubts have nothing to do
+    /// before this time.
+    fn poll_idle(&mut self, own: Option<Instant>, now: Instant) -> TurnPollRet
+        requires now_in_range { now ≤ 2 ^ 62 }
+        ensures { PollsIdle own now self.old self.new result }
+    {
+        match self.idle.poll(self.noted.grants(), now) {
+            Ok(step) => self.carry_out(step, own, now),
+            Err(_) => self.poll_both(sooner(own, Some(shortage_end(now))), now),
+        }
+    }
+
+    /// Does what is to be done about idle peers, one grant at a time.
+    fn carry_out(&mut self, step: IdleStep, own: Option<Instant>, now: Instant) -> TurnPollRet
+        requires now_in_range { now ≤ 2 ^ 62 }
+        ensures { IdleLeads own now (step, self.old.idle) self.old self.new result }
+    {
+        match step {
+            IdleStep::Keep(key) => self.keep_until_polled(key, true, now),
+            IdleStep::Release(key) => self.keep_until_polled(key, false, now),
+            IdleStep::WaitUntil(time) => self.poll_both(sooner(own, Some(time)), now),
+            IdleStep::Off => self.poll_both(own, now),
+        }
+    }
+
+    /// Keeps this grant, or lets it go. The session is to be polled again.
+    fn keep_until_polled(&mut self, key: Key, is_kept: bool, now: Instant) -> TurnPollRet
+        ensures answer { result ≡ WaitUntil now }
+        ensures after { self.new ≡ with_noted (kept_while_running key is_kept self.old.noted).1 self.old }
+    {
+        let _known = self.noted.set_kept(key, is_kept);
+        TurnPollRet::WaitUntil(now)
     }
 
     /// Polls the client, and waits no longer than for this time.
@@ -112,6 +150,13 @@ impl<C: TurnClientApi> Session<C> {
         let answer = self.noted.poll(now);
         capped(own, answer)
     }
+}
+
+/// When a call that found no memory is to be repeated.
+fn shortage_end(now: Instant) -> Instant
+    ensures { result ≡ shortage_end now }
+{
+    now.plus(Duration::from_nanos(SHORTAGE))
 }
 
 /// The answer of the client, with the sooner of two times if it waits.

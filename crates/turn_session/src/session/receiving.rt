@@ -2,16 +2,17 @@
 
 ghost use Rattle.std.specs.Prelude.{◌≡◌, ◌≤◌, ◌^◌, IfOk, OnErr, OnOk};
 ghost use Rattle.turn_client_api.specs.Answers.{HandsBack, RecvEnds, outcome_of};
-ghost use Rattle.turn_session.specs.Receiving.{Ends, Passes, Receives, is_of_server, noted_outcome, outcome_after, path_step};
+ghost use Rattle.turn_session.specs.Receiving.{Ends, Passes, Receives, is_of_server, noted_outcome, outcome_after, path_step, response_step};
 ghost use Rattle.turn_session_client.specs.Receiving.{ended_with};
 ghost use Rattle.turn_session.specs.SessionState.{with_noted};
 
-use crate::path_messages::response_in;
+use crate::path_messages::{PathText, response_in};
 use crate::session::Session;
 use std::alloc::AllocError;
 use std::convert::AsSlice;
 use std::fmt::Debug;
 use turn_client_api::{TurnClientApi, TurnRecvRet};
+use turn_session_client::is_channel_data;
 use turn_stun::instant::Instant;
 use turn_stun::transport::Transmit;
 
@@ -41,7 +42,8 @@ impl<C: TurnClientApi> Session<C> {
         }
     }
 
-    /// Takes a response to a request of the path. Returns whether it is one.
+    /// Measures a response to a request of the client, and takes one to a request of the path. Returns whether it is one of the path.
+    #[tactic(auto, using(crate::proofs::ChannelDataLemmas::passes))]
     fn answers_path<T: AsSlice<u8> + Debug + Drop>(
         &mut self,
         transmit: &Transmit<T>,
@@ -51,16 +53,29 @@ impl<C: TurnClientApi> Session<C> {
         ensures step { (result, self.new)
             ≡ path_step transmit.now.transport transmit.now.from transmit.now.to (T.items transmit.now.payload) now self.old }
     {
-        if !self.noted.is_open() || !self.is_of_server(transmit) {
+        if is_channel_data(transmit.payload.as_slice()) {
+            return false;
+        }
+        if self.noted.is_over() || !self.is_of_server(transmit) {
             return false;
         }
         match response_in(transmit.payload.as_slice()) {
-            Some(response) => {
-                self.tell_path();
-                self.watch.respond(response.id, response.mapped, now)
-            }
+            Some(response) => self.take_response(response, now),
             None => false,
         }
+    }
+
+    /// Measures a response to a request of the client, and takes one to a request of the path. Returns whether it is one of the path.
+    fn take_response(&mut self, response: PathText, now: Instant) -> bool
+        ensures kept { self.new.noted ≡ self.old.noted }
+        ensures step { (result, self.new) ≡ response_step response now self.old }
+    {
+        self.count_answer(response.id, now);
+        if !self.noted.is_open() {
+            return false;
+        }
+        self.tell_path();
+        self.watch.respond(response.id, response.mapped, now)
     }
 
     /// Whether it came from the server, over the control connection.

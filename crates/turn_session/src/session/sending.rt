@@ -13,7 +13,7 @@ use turn_stun::transport::Transmit;
 
 impl<C: TurnClientApi> Session<C> {
     /// The next packet to send, or none: those of the client as it returns them, and then requests of the path. Call it until it
-    /// returns none. After the end there is none.
+    /// returns none. After the end there is none. Requests of the client are counted here: send each packet at once.
     ///
     /// # Errors
     ///
@@ -26,7 +26,10 @@ impl<C: TurnClientApi> Session<C> {
         ensures no_memory { OnErr result (EndsUnsent now self.old self.new) }
     {
         match self.noted.poll_transmit(now) {
-            Ok(Some(packet)) => Ok(Some(packet)),
+            Ok(Some(packet)) => {
+                self.count_packet(&packet, now);
+                Ok(Some(packet))
+            }
             Ok(None) => self.own_packet(),
             Err(error) => Err(error),
         }

@@ -2,7 +2,7 @@
 
 ghost use Rattle.std.specs.Prelude.{◌≡◌, ◌≤◌, ◌^◌, OnErr, OnOk};
 ghost use Rattle.turn_session.specs.SessionState.{NotesAlone, with_noted};
-ghost use Rattle.turn_session_client.specs.Sockets.{FailsSocket, TakesSocket, closed_socket};
+ghost use Rattle.turn_session_client.specs.Sockets.{FailsSocket, TakesSocket, after_writing, closed_socket};
 
 use crate::session::Session;
 use std::alloc::AllocError;
@@ -73,5 +73,13 @@ impl<C: TurnClientApi> Session<C> {
         ensures err { OnErr result (self.new ≡ self.old) }
     {
         self.noted.data_closed(local, peer, tag, now)
+    }
+
+    /// Bytes of a data connection have left: the caller has written the last that it had now. If it leaves, the deletion of the
+    /// allocation waits for them (`leave`). After the end nothing changes.
+    pub fn data_written(&mut self, now: Instant)
+        ensures { self.new ≡ with_noted (after_writing now self.old.noted) self.old }
+    {
+        self.noted.data_written(now);
     }
 }

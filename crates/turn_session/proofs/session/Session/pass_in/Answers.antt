@@ -1,4 +1,4 @@
-use Rattle.std.proofs.Common.{rules, ◌≡◌, ℕ, List, sym, subst}
+use Rattle.std.proofs.Common.{rules, ◌≡◌, sym, subst}
 use Rattle.turn_session_client.specs.NotedState.{NotedState}
 use Rattle.turn_session_client.specs.Receiving as Client
 use Rattle.turn_session.proofs.session.Session.pass_in.Goals as goal

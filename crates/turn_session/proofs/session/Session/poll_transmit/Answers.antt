@@ -12,8 +12,8 @@ own-next : {E : Type 0} (now : ℕ) (inside was : SessionState) → inside ≡ w
     noted ≡ (transmitted now inside.noted).1 → (result : Result (Option (Transmit (List ℕ))) E) →
     IfOk result (λ packet. packet ≡ (own_step (with_noted noted inside)).0) → IfOk result (λ packet. packet ≡ (transmit_step now was).0)
 own-next now inside was same noted none after result own =
-    let by-packet = ap (λ (p : Option (Transmit (List ℕ))). or_own inside (p, noted)) none in
-    let by-state = ap (λ (n : NotedState). or_own inside ((transmitted now inside.noted).0, n)) after in
+    let by-packet = ap (λ (p : Option (Transmit (List ℕ))). or_own now inside (p, noted)) none in
+    let by-state = ap (λ (n : NotedState). or_own now inside ((transmitted now inside.noted).0, n)) after in
     let step : own_step (with_noted noted inside) ≡ transmit_step now inside = by-packet ∙ by-state in
     subst (λ (u : SessionState). IfOk result (λ packet. packet ≡ (transmit_step now u).0)) same
     (subst (λ (t : Option (Transmit (List ℕ)) × SessionState). IfOk result (λ packet. packet ≡ t.0)) step own)
