@@ -1,5 +1,5 @@
-//! Tests of `turn_session_book`, `turn_session_idle` and `turn_session_path`: what a session notes, which peers are idle, and how it
-//! checks its path, without a client.
+//! Tests of `turn_session_book`, `turn_session_idle`, `turn_session_counts` and `turn_session_path`: what a session notes, which peers
+//! are idle, how its requests are counted, and how it checks its path, without a client.
 //!
 //! To run them, unproved, in this folder:
 //!
@@ -10,6 +10,8 @@
 
 #[cfg(test)]
 mod book;
+#[cfg(test)]
+mod counts;
 #[cfg(test)]
 mod fixture;
 #[cfg(test)]

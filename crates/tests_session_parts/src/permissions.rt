@@ -3,12 +3,14 @@
 use crate::fixture::{at, check, ip, peer, permission, refusal, reports_alone};
 use std::alloc::{AllocError, Global};
 use std::net::SocketAddr;
+use std::process::Abort;
 use std::test::Fail;
 use turn_session_book::answers::Outcome;
 use turn_session_book::book::Book;
 use turn_session_book::events::Event;
 use turn_session_book::keys::Key;
 use turn_session_book::open_requests::Progress;
+use turn_session_book::replies::ErrorReply;
 
 /// The peer of the channel: 10.0.0.3.
 const PEER: u8 = 3;
@@ -130,16 +132,55 @@ fn requests_that_share_a_permission_go_on_in_order(rt: HostRuntime) -> Result<()
     Ok(())
 }
 
-// The permission that was refused to the first is requested again for the second.
-#[test]
-fn a_request_goes_on_when_another_was_refused_their_permission(
-    rt: HostRuntime,
-) -> Result<(), Fail> {
-    let mut book = unpermitted(rt.alloc())?;
+/// The first request that was denied has its outcome by this denial.
+fn settle_denied(book: &mut Book) -> Result<(), AllocError> {
+    if let Some(request) = book.first_denied() {
+        book.denied(request, at(0))?;
+    }
+    Ok(())
+}
+
+/// The next event is this outcome of this request.
+fn reports(rt: &impl Abort, book: &mut Book, ticket: u32, key: Key, outcome: &Outcome, case: u32) {
+    let is_reported = match book.next_event() {
+        Some(Event::Outcome(number, whose, its)) => {
+            number == ticket && whose == key && its == *outcome
+        }
+        _ => false,
+    };
+    check(rt, is_reported, case);
+}
+
+/// Both requests that share a permission have this outcome: it was refused by this error, or with `None` not answered in time.
+fn both_are_denied(
+    rt: &impl Abort,
+    alloc: Global,
+    error: Option<ErrorReply>,
+    outcome: &Outcome,
+) -> Result<(), AllocError> {
+    let mut book = unpermitted(alloc)?;
     book.advance(connection(4, 1), Progress::Permitting);
-    book.failed(permission(4), Some(refusal(403)), at(0))?;
-    check(&rt, book.first_denied().is_some(), 0);
-    check(&rt, is_next(&book, connection(4, 2)), 1);
+    book.failed(permission(4), error, at(0))?;
+    check(rt, is_next(&book, connection(5, 1)), 0);
+    settle_denied(&mut book)?;
+    settle_denied(&mut book)?;
+    check(rt, book.first_denied().is_none(), 1);
+    reports(rt, &mut book, 1, connection(4, 1), outcome, 2);
+    reports(rt, &mut book, 2, connection(4, 2), outcome, 3);
+    check(rt, book.next_event().is_none(), 4);
+    Ok(())
+}
+
+#[test]
+fn requests_that_share_a_permission_are_refused_with_it(rt: HostRuntime) -> Result<(), Fail> {
+    let outcome = Outcome::Refused(refusal(403));
+    both_are_denied(&rt, rt.alloc(), Some(refusal(403)), &outcome)?;
+    Ok(())
+}
+
+#[test]
+fn requests_that_share_a_permission_time_out_with_it(rt: HostRuntime) -> Result<(), Fail> {
+    both_are_denied(&rt, rt.alloc(), None, &Outcome::TimedOut(None))?;
     Ok(())
 }
 
