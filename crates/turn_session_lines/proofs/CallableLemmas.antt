@@ -80,6 +80,7 @@ plain_callable : (name : PlainName) (now : ℕ) → now ≤ 2 ^ 62 → IsCallabl
 plain_callable Plains.Next now low = low
 plain_callable Plains.Grants now low = tt
 plain_callable Plains.Until now low = tt
+plain_callable Plains.Counters now low = tt
 plain_callable Plains.Check now low = tt
 plain_callable Plains.Abandon now low = low
 

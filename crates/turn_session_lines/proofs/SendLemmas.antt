@@ -24,11 +24,11 @@ packet_is (Ok (Packet packet)) said h = ap (λ (t : Transmit (List ℕ)). Replie
 packet_is (Ok (Requested answer)) said h = absurd h
 packet_is (Err refusal) said h = absurd h
 
-permitted_reply : {T : Type 0} {g : Ghosts T ℕ} → (transport : TransportType) (now : ℕ) (step : Result (Transmit (List ℕ)) SendError) (t : SessionState)
-    (result : Result (Sent T g) SendRefusal) (s : SessionState) → GivesStep transport now step t result s
-    → (reply_of result ≡ (sent_reply transport now step t).0) × (s ≡ (sent_reply transport now step t).1)
-permitted_reply transport now (Err refusal) t result s h = (ap reply_of h.0, h.1)
-permitted_reply transport now (Ok packet) t result s h = elim (cases_Bool (is_longer transport 65_507 (length packet.payload))) [
+permitted_reply : {T : Type 0} {g : Ghosts T ℕ} → (transport : TransportType) (to : SocketAddr) (now : ℕ) (step : Result (Transmit (List ℕ)) SendError) (t : SessionState)
+    (result : Result (Sent T g) SendRefusal) (s : SessionState) → GivesStep transport to now step t result s
+    → (reply_of result ≡ (sent_reply transport to now step t).0) × (s ≡ (sent_reply transport to now step t).1)
+permitted_reply transport to now (Err refusal) t result s h = (ap reply_of h.0, h.1)
+permitted_reply transport to now (Ok packet) t result s h = elim (cases_Bool (is_longer transport 65_507 (length packet.payload))) [
   | inl long ↦ let said = rw long at h in rw long (ap reply_of said.0, said.1)
   | inr short ↦ let said = rw short at h in rw short (packet_is result packet said.0, said.1)
 ]
@@ -42,7 +42,7 @@ given_reply transport to bytes now result was s h = elim (cases_Bool (is_longer 
     | inl may ↦
         let step = sent_step transport to bytes now was.noted in
         let said = rw (short, may) at h in
-        rw (short, may) (permitted_reply transport now step.0 (with_noted step.1 was) result s said)
+        rw (short, may) (permitted_reply transport to now step.0 (with_noted step.1 was) result s said)
     | inr must ↦ let said = rw (short, must) at h in rw (short, must) (said.0, ap reply_of said.1, said.2, said.3)
   ]
 ]

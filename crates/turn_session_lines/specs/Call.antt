@@ -15,7 +15,8 @@ use Rattle.turn_lines.specs.declared.fault.BadKind.TheVariants as Bad
 use Rattle.turn_session_book.specs.declared.keys.Key.{Key}
 use Rattle.turn_session_lines.specs.Arguments.{closed_of, key_of, optional_tag_of, tag_of}
 use Rattle.turn_session_lines.specs.declared.call.Report.{Report}
-use Rattle.turn_session_lines.specs.declared.call.Report.TheVariants.{SocketError, SocketEnded, NoRoute, HostMoved, Full, Room, Leave}
+use Rattle.turn_session_lines.specs.declared.call.Report.TheVariants.{SocketError, SocketEnded, NoRoute, HostMoved}
+use Rattle.turn_session_lines.specs.declared.call.Report.TheVariants.{Full, Room, DataWritten, Leave}
 use Rattle.turn_session_lines.specs.declared.call.SessionCall.{SessionCall}
 use Rattle.turn_session_lines.specs.declared.call.SessionCall.TheVariants as Calls
 use Rattle.turn_session_lines.specs.declared.parse.name.KeyName.{KeyName}
@@ -46,13 +47,14 @@ key_calls =
 
 abbrev pub plain_calls : List (List ℕ × PlainName)
 plain_calls =
-    (codes "next", Plains.Next) ∷ (codes "grants", Plains.Grants) ∷ (codes "until", Plains.Until) ∷ (codes "check", Plains.Check)
-    ∷ (codes "abandon", Plains.Abandon) ∷ []
+    (codes "next", Plains.Next) ∷ (codes "grants", Plains.Grants) ∷ (codes "until", Plains.Until)
+    ∷ (codes "counters", Plains.Counters) ∷ (codes "check", Plains.Check) ∷ (codes "abandon", Plains.Abandon) ∷ []
 
 abbrev pub report_calls : List (List ℕ × ReportName)
 report_calls =
     (codes "error", Reports.Error) ∷ (codes "ended", Reports.Ended) ∷ (codes "no-route", Reports.NoRoute)
-    ∷ (codes "moved", Reports.Moved) ∷ (codes "full", Reports.Full) ∷ (codes "room", Reports.Room) ∷ (codes "leave", Reports.Leave) ∷ []
+    ∷ (codes "moved", Reports.Moved) ∷ (codes "full", Reports.Full) ∷ (codes "room", Reports.Room)
+    ∷ (codes "written", Reports.Written) ∷ (codes "leave", Reports.Leave) ∷ []
 
 abbrev pub named : {A : Type 0} → List (List ℕ × A) → List ℕ → Option A
 named calls text = option_map (λ call. call.1) (find (λ call. bytes_eq text call.0) calls)
@@ -81,6 +83,7 @@ abbrev pub plain_call : PlainName → ℕ → SessionCall
 plain_call Plains.Next now = Calls.Next now
 plain_call Plains.Grants now = Calls.Grants
 plain_call Plains.Until now = Calls.KeptUntil
+plain_call Plains.Counters now = Calls.Counters
 plain_call Plains.Check now = Calls.Check now
 plain_call Plains.Abandon now = Calls.Abandon now
 
@@ -91,6 +94,7 @@ report_with Reports.NoRoute fields = option_map NoRoute (tag_of fields)
 report_with Reports.Moved fields = option_map HostMoved (tag_of fields)
 report_with Reports.Full fields = option_map (λ _. Full) (ends fields)
 report_with Reports.Room fields = option_map (λ _. Room) (ends fields)
+report_with Reports.Written fields = option_map (λ _. DataWritten) (ends fields)
 report_with Reports.Leave fields = option_map (λ _. Leave) (ends fields)
 
 abbrev pub own_call_with : OwnName → ℕ → List (List ℕ) → Option SessionCall

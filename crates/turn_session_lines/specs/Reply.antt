@@ -25,16 +25,17 @@ use Rattle.turn_session_client.specs.Asking.{Requests, grant_of, keep_result}
 use Rattle.turn_session_client.specs.Ending.{abandon_result, abandon_state, ended, is_over, left, left_for, may_be_kept_until}
 use Rattle.turn_session_client.specs.Keeping.{kept_while_running}
 use Rattle.turn_session_client.specs.Sending.{sent_step}
-use Rattle.turn_session_client.specs.Sockets.{FailsSocket, TakesSocket, closed_socket}
+use Rattle.turn_session_client.specs.Sockets.{FailsSocket, TakesSocket, after_writing, closed_socket}
 use Rattle.turn_session.specs.Checking.{checked_step, data_sent}
 use Rattle.turn_session.specs.Due.{IsNext}
 use Rattle.turn_session.specs.Ending.{after_failure, after_full, after_room}
-use Rattle.turn_session.specs.Framing.{ReceivesBytes, TakesData}
+use Rattle.turn_session.specs.Framing.{PollsData, ReceivesBytes}
 use Rattle.turn_session.specs.Giving.{is_longer, is_permitted}
 use Rattle.turn_session.specs.Polling.{Polls}
 use Rattle.turn_session.specs.Reporting.{reported_step}
 use Rattle.turn_session.specs.Sending.{transmit_step}
 use Rattle.turn_session.specs.SessionState.{SessionState, NotesAlone, with_noted}
+use Rattle.turn_session.specs.Uses.{NotesUse, kept_after}
 use Rattle.turn_session.specs.declared.due.Due.{Due}
 use Rattle.turn_session.specs.declared.due.Due.TheVariants as Next
 use Rattle.turn_session.specs.declared.sent.SendRefusal.{SendRefusal}
@@ -55,6 +56,7 @@ after_report (Reports.NoRoute tag) now s = with_noted (ended (Why.NoRoute tag) s
 after_report (Reports.HostMoved tag) now s = with_noted (left_for (Why.HostMoved tag) now s.noted) s
 after_report Reports.Full now s = after_full now s
 after_report Reports.Room now s = after_room s
+after_report Reports.DataWritten now s = with_noted (after_writing now s.noted) s
 after_report Reports.Leave now s = with_noted (left now s.noted) s
 
 -- what was received gives this outcome
@@ -66,12 +68,12 @@ RepliesToRecv packet now was reply s =
 -- a request
 abbrev pub RepliesToRequest : Key → Bool → ℕ → SessionState → SessionReply → SessionState → Type 0
 RepliesToRequest key is_for_data now was reply s =
-    (answer : Answer) × (reply ≡ Replies.Answer (Some answer)) × Requests key is_for_data now answer was.noted s.noted × NotesAlone was s
+    (answer : Answer) × (reply ≡ Replies.Answer (Some answer)) × Requests key is_for_data now answer was.noted s.noted × NotesUse key now was s
 
 -- data of a peer that a stream holds
 abbrev pub RepliesToPollRecv : ℕ → SessionState → SessionReply → SessionState → Type 0
 RepliesToPollRecv now was reply s =
-    (payload : Option Payload) × (reply ≡ Replies.OfClient (poll_recv_reply payload)) × TakesData now was s payload
+    (payload : Option Payload) × (reply ≡ Replies.OfClient (poll_recv_reply payload)) × PollsData now was s payload
 
 -- what is due, as the call for it alone would say
 abbrev pub due_reply : Due → SessionReply
@@ -84,14 +86,14 @@ due_reply Next.Over = Replies.OfClient (Client.Poll Closed)
 -- ---- data for a peer
 
 -- a message to the server has at most 65,507 bytes with its header
-abbrev pub packet_reply : TransportType → ℕ → Transmit (List ℕ) → SessionState → SessionReply × SessionState
-packet_reply transport now packet s =
+abbrev pub packet_reply : TransportType → SocketAddr → ℕ → Transmit (List ℕ) → SessionState → SessionReply × SessionState
+packet_reply transport to now packet s =
     if is_longer transport 65_507 (length packet.payload) then (Replies.TooLong, s)
-    else (Replies.OfClient (Client.SendTo (Ok packet)), data_sent now s)
+    else (Replies.OfClient (Client.SendTo (Ok packet)), data_sent to now s)
 
-abbrev pub sent_reply : TransportType → ℕ → Result (Transmit (List ℕ)) SendError → SessionState → SessionReply × SessionState
-sent_reply transport now (Ok packet) s = packet_reply transport now packet s
-sent_reply transport now (Err refusal) s = (Replies.OfClient (Client.SendTo (Err refusal)), s)
+abbrev pub sent_reply : TransportType → SocketAddr → ℕ → Result (Transmit (List ℕ)) SendError → SessionState → SessionReply × SessionState
+sent_reply transport to now (Ok packet) s = packet_reply transport to now packet s
+sent_reply transport to now (Err refusal) s = (Replies.OfClient (Client.SendTo (Err refusal)), s)
 
 -- the client makes the packet, or the permission of a peer without one is requested, as for data
 abbrev pub RepliesToSend : TransportType → SocketAddr → List ℕ → ℕ → SessionState → SessionReply → SessionState → Type 0
@@ -101,7 +103,7 @@ RepliesToSend transport to payload now was reply s = by (is_longer transport 65_
     by true _ = (reply ≡ Replies.TooLong) × (s ≡ was)
     by false true =
         let step = sent_step transport to payload now was.noted in
-        let said = sent_reply transport now step.0 (with_noted step.1 was) in (reply ≡ said.0) × (s ≡ said.1)
+        let said = sent_reply transport to now step.0 (with_noted step.1 was) in (reply ≡ said.0) × (s ≡ said.1)
     by false false = RepliesToRequest (Permission (socket_ip to)) true now was reply s
 
 -- what the session returned, with a packet built
@@ -147,11 +149,12 @@ RepliesTo (Calls.HavePermission transport to) was reply s =
     (reply ≡ Replies.OfClient (Client.HavePermission (not (is_over was.noted.life.phase) && can_send_to transport to was.noted.client))) × (s ≡ was)
 RepliesTo (Calls.Request key is_for_data now) was reply s = RepliesToRequest key is_for_data now was reply s
 RepliesTo (Calls.SetKept key is_kept) was reply s =
-    let step = kept_while_running key is_kept was.noted in (reply ≡ Replies.Kept (keep_result step.0)) × (s ≡ with_noted step.1 was)
+    let step = kept_while_running key is_kept was.noted in (reply ≡ Replies.Kept (keep_result step.0)) × (s ≡ kept_after key step was)
 RepliesTo (Calls.GrantOf key now) was reply s = (reply ≡ Replies.Answer (grant_of key now was.noted)) × (s ≡ was)
 RepliesTo Calls.Grants was reply s =
     (grants : Vec HeldGrant Global) × (reply ≡ Replies.Grants grants) × (grants.items ≡ was.noted.notes.book.held) × (s ≡ was)
 RepliesTo Calls.KeptUntil was reply s = (reply ≡ Replies.KeptUntil (may_be_kept_until was.noted)) × (s ≡ was)
+RepliesTo Calls.Counters was reply s = (reply ≡ Replies.Counters was.counts.counters) × (s ≡ was)
 RepliesTo (Calls.Check now) was reply s = let step = checked_step now was in (reply ≡ Replies.Answer (Some step.0)) × (s ≡ step.1)
 RepliesTo (Calls.Abandon now) was reply s =
     (reply ≡ Replies.OfClient (Client.Transmit (abandon_result now was.noted))) × (s ≡ with_noted (abandon_state now was.noted) was)

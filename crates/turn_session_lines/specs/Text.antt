@@ -20,6 +20,7 @@ use Rattle.turn_session_book.specs.declared.keys.Key.{Key}
 use Rattle.turn_session_book.specs.declared.keys.Key.TheVariants.{Permission, Channel, Connect}
 use Rattle.turn_session_book.specs.declared.replies.ErrorReply.{ErrorReply}
 use Rattle.turn_session_book.specs.declared.tags.Tag.{Tag}
+use Rattle.turn_session_counts.specs.declared.counters.Counters.{Counters}
 use Rattle.turn_session_lines.specs.declared.reply.SessionReply.{SessionReply}
 use Rattle.turn_session_lines.specs.declared.reply.SessionReply.TheVariants as Replies
 
@@ -154,6 +155,14 @@ abbrev pub until_text : Option ℕ → List ℕ
 until_text None = codes "none"
 until_text (Some time) = codes "until " ++ decimal time
 
+-- how many requests, how often one again, and the round trip
+abbrev pub counters_text : Counters → List ℕ
+counters_text c = codes "counters " ++ (decimal c.requests ++ (codes " " ++ (decimal c.retransmissions ++ (codes " " ++ by c.round_trip))))
+  where
+    by : Option ℕ → List ℕ
+    by None = codes "-"
+    by (Some nanos) = decimal nanos
+
 abbrev pub optional_event_text : Option Event → List ℕ
 optional_event_text None = codes "none"
 optional_event_text (Some event) = event_text event
@@ -170,6 +179,7 @@ own_text (Replies.Answer answer) = optional_request_text answer
 own_text (Replies.Kept kept) = kept_text kept
 own_text (Replies.Grants grants) = grants_text grants.items
 own_text (Replies.KeptUntil time) = until_text time
+own_text (Replies.Counters counters) = counters_text counters
 own_text Replies.TooLong = codes "refused too-long"
 
 -- each answer is a line

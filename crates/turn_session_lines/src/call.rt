@@ -85,6 +85,8 @@ pub enum SessionCall {
     Grants,
     /// `may_be_kept_until`.
     KeptUntil,
+    /// `counters`.
+    Counters,
     /// `check`.
     Check {
         /// The time.
@@ -154,6 +156,8 @@ pub enum Report {
     Full,
     /// `room`.
     Room,
+    /// `data_written`.
+    DataWritten,
     /// `leave`.
     Leave,
 }

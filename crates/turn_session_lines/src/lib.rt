@@ -43,6 +43,7 @@
 //! - `until`: `none`, or `until N`, the time until which the server may keep the allocation
 //! - `check`: `ticket N`, `refused no-allocation` or `ended WHY`
 //! - `closed LOCAL PEER TAG`: `ok`; the data connection to PEER was closed
+//! - `written`: `ok`; bytes of a data connection have left
 //! - `error TAG`, `ended TAG` (`-` if the server closed the stream), `no-route TAG`, `moved TAG`, `full`, `room`, `leave`: `ok`
 //! - `abandon`: `none`, or `send TRANSPORT FROM TO BYTES`
 //!

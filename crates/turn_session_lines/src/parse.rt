@@ -169,6 +169,7 @@ fn plain_call(name: PlainName, now: Instant) -> SessionCall
         PlainName::Next => SessionCall::Next { now },
         PlainName::Grants => SessionCall::Grants,
         PlainName::Until => SessionCall::KeptUntil,
+        PlainName::Counters => SessionCall::Counters,
         PlainName::Check => SessionCall::Check { now },
         PlainName::Abandon => SessionCall::Abandon { now },
     }
@@ -185,6 +186,7 @@ fn take_report(name: ReportName, fields: &mut Parts<'_>) -> Option<Report>
         ReportName::Moved => Some(Report::HostMoved(take_tag(fields)?)),
         ReportName::Full => alone(fields, Report::Full),
         ReportName::Room => alone(fields, Report::Room),
+        ReportName::Written => alone(fields, Report::DataWritten),
         ReportName::Leave => alone(fields, Report::Leave),
     }
 }

@@ -1,7 +1,8 @@
 //! The answers of a session as text: a line for each.
 
 ghost use Rattle.std.specs.Prelude.{◌≡◌, IfOk, string_bytes};
-ghost use Rattle.turn_session_lines.specs.Text.{answer_text, kept_text, optional_event_text, optional_request_text, own_text, request_text, until_text};
+ghost use Rattle.turn_session_lines.specs.Text.{answer_text, counters_text, kept_text, optional_event_text, optional_request_text};
+ghost use Rattle.turn_session_lines.specs.Text.{own_text, request_text, until_text};
 
 mod address;
 mod cause;
@@ -20,6 +21,7 @@ use std::slice;
 use turn_lines::print::answers_text;
 use turn_session_book::answers::{Answer, CallError};
 use turn_session_book::events::Event;
+use turn_session_counts::counters::Counters;
 use turn_stun::instant::Instant;
 
 /// The line that answers a call.
@@ -46,6 +48,7 @@ fn own_text(alloc: Global, reply: &SessionReply) -> Result<String, AllocError>
         SessionReply::Kept(kept) => kept_text(alloc, *kept),
         SessionReply::Grants(grants) => grants_text(alloc, grants.as_slice()),
         SessionReply::KeptUntil(time) => until_text(alloc, *time),
+        SessionReply::Counters(counters) => counters_text(alloc, *counters),
         SessionReply::TooLong => String::from_str(alloc, "refused too-long"),
     }
 }
@@ -116,5 +119,20 @@ fn until_text(alloc: Global, time: Option<Instant>) -> Result<String, AllocError
             format!(in alloc; "until {nanos}")
         }
         None => String::from_str(alloc, "none"),
+    }
+}
+
+/// How many requests were sent, how often one was sent again, and the mean round trip in nanoseconds, or `-` before the first answer.
+fn counters_text(alloc: Global, counters: Counters) -> Result<String, AllocError>
+    ensures { IfOk result (λ text. string_bytes text ≡ counters_text counters) }
+{
+    let Counters {
+        requests,
+        retransmissions,
+        ..
+    } = counters;
+    match counters.round_trip {
+        Some(nanos) => format!(in alloc; "counters {requests} {retransmissions} {nanos}"),
+        None => format!(in alloc; "counters {requests} {retransmissions} -"),
     }
 }

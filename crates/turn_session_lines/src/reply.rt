@@ -15,6 +15,7 @@ use turn_session::session::Session;
 use turn_session_book::answers::{Answer, CallError};
 use turn_session_book::events::Event;
 use turn_session_book::held::HeldGrant;
+use turn_session_counts::counters::Counters;
 use turn_stun::instant::Instant;
 
 /// The answer of a call.
@@ -32,6 +33,8 @@ pub enum SessionReply {
     Grants(Vec<HeldGrant>),
     /// Until when the server may keep the allocation, if it may.
     KeptUntil(Option<Instant>),
+    /// The requests that were sent, in numbers.
+    Counters(Counters),
     /// The data is too long for a message to the server.
     TooLong,
 }
@@ -77,6 +80,7 @@ pub fn reply_to<C: TurnClientApi>(
         SessionCall::GrantOf { key, now } => Ok(SessionReply::Answer(session.grant_of(key, now))),
         SessionCall::Grants => grants(alloc, session),
         SessionCall::KeptUntil => Ok(SessionReply::KeptUntil(session.may_be_kept_until())),
+        SessionCall::Counters => Ok(SessionReply::Counters(session.counters())),
         SessionCall::Check { now } => Ok(answered(session.check(now))),
         SessionCall::Abandon { now } => abandon(session, now),
         SessionCall::DataOpened {
@@ -123,6 +127,7 @@ fn note_report<C: TurnClientApi>(session: &mut Session<C>, report: Report, now: 
         Report::HostMoved(tag) => session.host_moved(tag, now),
         Report::Full => session.full(now),
         Report::Room => session.room(),
+        Report::DataWritten => session.data_written(now),
         Report::Leave => session.leave(now),
     }
 }

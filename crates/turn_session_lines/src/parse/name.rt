@@ -49,6 +49,8 @@ pub enum PlainName {
     Grants,
     /// `until`: until when the server may keep the allocation.
     Until,
+    /// `counters`: the requests that were sent, in numbers.
+    Counters,
     /// `check`.
     Check,
     /// `abandon`.
@@ -70,6 +72,8 @@ pub enum ReportName {
     Full,
     /// `room`: the stream takes bytes again.
     Room,
+    /// `written`: bytes of a data connection have left.
+    Written,
     /// `leave`.
     Leave,
 }
@@ -155,6 +159,9 @@ fn parse_plain_name(text: &[u8]) -> Option<PlainName>
     if text == b"until".as_slice() {
         return Some(PlainName::Until);
     }
+    if text == b"counters".as_slice() {
+        return Some(PlainName::Counters);
+    }
     if text == b"check".as_slice() {
         return Some(PlainName::Check);
     }
@@ -185,6 +192,9 @@ fn parse_report_name(text: &[u8]) -> Option<ReportName>
     }
     if text == b"room".as_slice() {
         return Some(ReportName::Room);
+    }
+    if text == b"written".as_slice() {
+        return Some(ReportName::Written);
     }
     if text == b"leave".as_slice() {
         return Some(ReportName::Leave);
