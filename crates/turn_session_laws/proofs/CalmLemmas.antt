@@ -1,10 +1,14 @@
 -- Data does not wake a path.
-use Rattle.std.proofs.Common.{◌≡◌, ◌∙◌, ℕ, ◌<◌, ◌≤◌, true, false, Option, Some, None, is_some, option_map, refl, sym, ap, subst, arith}
+use Rattle.std.proofs.Common.{◌≡◌, ◌∙◌, ℕ, ◌<◌, ◌≤◌, true, false, List, Option, Some, None, is_some, option_map, refl, sym, ap, subst, arith}
+use Rattle.std.specs.declared.net.socket_addr.SocketAddr.{SocketAddr}
 use Rattle.turn_stun.specs.declared.transport.TransportType.{TransportType}
 use Rattle.turn_stun.specs.declared.transport.TransportType.TheVariants.{Udp, Tcp}
 use Rattle.turn_client_api.specs.Payloads.{Outcome}
 use Rattle.turn_client_api.specs.Payloads as Outcomes
 use Rattle.turn_client_api.specs.declared.poll.TurnPollRet.TheVariants as Answered
+use Rattle.turn_session_book.specs.declared.held.HeldGrant.{HeldGrant}
+use Rattle.turn_session_idle.specs.IdlePeers.{idle_step}
+use Rattle.turn_session_idle.specs.declared.peers.IdleStep.TheVariants.{Off}
 use Rattle.turn_session_path.specs.FullStream.{since_received}
 use Rattle.turn_session_path.specs.PathDue.{IsLater, check_due, errors_due, full_due, path_due, probe_due, sooner}
 use Rattle.turn_session_path.specs.PathResponses.{after_received}
@@ -17,10 +21,11 @@ use Rattle.turn_session_life.specs.declared.watch.OwnRequest.{OwnRequest}
 use Rattle.turn_session_life.specs.declared.watch.Watch.{Watch}
 use Rattle.turn_session_client.specs.Ending.{is_open}
 use Rattle.turn_session_client.specs.NotedState.{NotedState}
-use Rattle.turn_session.specs.Checking.{data_sent, told_path}
+use Rattle.turn_session.specs.Checking.{data_sent, response_delayed, told_path}
 use Rattle.turn_session.specs.Polling.{Polls, begun}
 use Rattle.turn_session.specs.Receiving.{with_sign}
 use Rattle.turn_session.specs.SessionState.{SessionState, with_noted}
+use Rattle.turn_session.specs.Uses.{used_peer}
 use Rattle.turn_session_laws.specs.CalmLaws.{BeginsNoProbe, IsInOrder, NextIsNotBefore, PathSleeps}
 use Rattle.turn_session_laws.specs.SleepLaws.{IsNotAfter}
 use Rattle.turn_session_laws.proofs.PathSleepLemmas.{due-waits, watch-again, watch-sleeps}
@@ -122,20 +127,39 @@ received-sleeps time at (Outcomes.PeerData payload) noted was h begins =
 received-sleeps time at (Outcomes.PeerIcmp transport peer icmp) noted was h begins =
     sign-sleeps time at was.received (with_noted noted was) (noted-sleeps time noted was.received was h) (noted-begins time at noted was.received was begins)
 
+-- ---- which peers are used
+
+used-by : (time at : ℕ) (peer : SocketAddr) (received : Option ℕ) (s : SessionState) → PathSleeps time (receiving received s)
+    → PathSleeps time (used_peer peer at (receiving received s))
+used-by time at peer None s h = record { due = h.due; is_still = h.is_still; is_sent = h.is_sent }
+used-by time at peer (Some before) s h = record { due = h.due; is_still = h.is_still; is_sent = h.is_sent }
+
+-- the use of a peer is none of the path's
+pub used-sleeps : (time at : ℕ) (peer : SocketAddr) (s : SessionState) → PathSleeps time s → PathSleeps time (used_peer peer at s)
+used-sleeps time at peer s h = used-by time at peer s.received s h
+
+pub unused : (peer : SocketAddr) (at : ℕ) (s : SessionState) → s.idle.idle ≡ None → used_peer peer at s ≡ s
+unused peer at s off = rw off refl
+
+pub idle-off : (now : ℕ) (granted : List HeldGrant) (s : SessionState) → s.idle.idle ≡ None → idle_step granted now s.idle ≡ (Off, s.idle)
+idle-off now granted s off = rw off refl
+
 -- ---- what is sent
 
 abbrev sending_over : TransportType → SessionState → SessionState
 sending_over transport s = record s { watch = record s.watch { path = record s.watch.path { transport = transport } } }
 
 sent-by : (time at : ℕ) (transport : TransportType) (received : Option ℕ) (s : SessionState)
-    → PathSleeps time (sending_over transport (receiving received s)) → PathSleeps time (data_sent at (sending_over transport (receiving received s)))
+    → PathSleeps time (sending_over transport (receiving received s)) → PathSleeps time (response_delayed at (sending_over transport (receiving received s)))
 sent-by time at Udp received s h = h
 sent-by time at Tcp None s h = record { due = h.due; is_still = h.is_still; is_sent = h.is_sent }
 sent-by time at Tcp (Some before) s h = record { due = h.due; is_still = h.is_still; is_sent = h.is_sent }
 
-pub sent-sleeps : (time at : ℕ) (noted : NotedState) (was : SessionState) → PathSleeps time was → PathSleeps time (data_sent at (with_noted noted was))
-sent-sleeps time at noted was h =
-    sent-by time at was.watch.path.transport was.received (with_noted noted was) (noted-sleeps time noted was.received was h)
+pub sent-sleeps : (time at : ℕ) (to : SocketAddr) (noted : NotedState) (was : SessionState) → PathSleeps time was
+    → PathSleeps time (data_sent to at (with_noted noted was))
+sent-sleeps time at to noted was h =
+    used-sleeps time at to (response_delayed at (with_noted noted was))
+    (sent-by time at was.watch.path.transport was.received (with_noted noted was) (noted-sleeps time noted was.received was h))
 
 -- ---- the time
 

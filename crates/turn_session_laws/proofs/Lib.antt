@@ -4,6 +4,7 @@ pub mod DoubtHistory
 pub mod DoubtPolls
 pub mod DoubtSilence
 pub mod DoubtSleepLemmas
+pub mod IdleSleepLemmas
 pub mod PathErrors
 pub mod PathFull
 pub mod PathHistory
@@ -11,5 +12,8 @@ pub mod PathPolls
 pub mod PathProbes
 pub mod PathSilence
 pub mod PathSleepLemmas
+pub mod PollRunLemmas
+pub mod RunLemmas
 pub mod SameKeyLemmas
+pub mod SessionRunLemmas
 pub mod SessionSleepLemmas

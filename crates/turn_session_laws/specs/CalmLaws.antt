@@ -1,9 +1,13 @@
 -- Laws of data that makes nothing due.
-use Rattle.std.specs.Prelude.{◌≡◌, ℕ, ◌+◌, ◌-◌, ◌^◌, ◌<◌, ◌≤◌, min, true, false, [], ◌∷◌, Option, Some, None}
+use Rattle.std.specs.Prelude.{◌≡◌, ℕ, ◌+◌, ◌-◌, ◌^◌, ◌<◌, ◌≤◌, min, true, false, List, [], ◌∷◌, Option, Some, None}
+use Rattle.std.specs.declared.net.socket_addr.SocketAddr.{SocketAddr}
 use Rattle.turn_stun.specs.declared.transport.TransportType.TheVariants.{Udp}
 use Rattle.turn_agent.specs.TransactionIds.{Source}
 use Rattle.turn_client_api.specs.Payloads.{Outcome}
 use Rattle.turn_client_api.specs.declared.poll.TurnPollRet.TheVariants.{WaitUntil}
+use Rattle.turn_session_book.specs.declared.held.HeldGrant.{HeldGrant}
+use Rattle.turn_session_idle.specs.IdlePeers.{idle_step}
+use Rattle.turn_session_idle.specs.declared.peers.IdleStep.TheVariants.{Off}
 use Rattle.turn_session_path.specs.Path.{first_path}
 use Rattle.turn_session_path.specs.PathDue.{path_due}
 use Rattle.turn_session_path.specs.declared.asked.Asked.{Asked}
@@ -16,6 +20,7 @@ use Rattle.turn_session.specs.Checking.{data_sent, told_path}
 use Rattle.turn_session.specs.Polling.{Polls}
 use Rattle.turn_session.specs.Receiving.{with_sign}
 use Rattle.turn_session.specs.SessionState.{SessionState, with_noted}
+use Rattle.turn_session.specs.Uses.{used_peer}
 use Rattle.turn_session_laws.specs.PathRuns.{path_after}
 use Rattle.turn_session_laws.specs.PathRuns.PathCall.{Polled}
 use Rattle.turn_session_laws.specs.SleepLaws.{IsNotAfter}
@@ -60,11 +65,16 @@ pub record DataMakesNothingDue : Type 0 where
   pub sleeps : (time later : ℕ) (s : SessionState) → PathSleeps time s → later < time
       → let w = (told_path s).watch in watch_step later w ≡ (next_wait w, w)
   -- data that is sent does not wake it, whatever the client is then
-  pub sent : (time at : ℕ) (noted : NotedState) (was : SessionState) → PathSleeps time was
-      → PathSleeps time (data_sent at (with_noted noted was))
+  pub sent : (time at : ℕ) (to : SocketAddr) (noted : NotedState) (was : SessionState) → PathSleeps time was
+      → PathSleeps time (data_sent to at (with_noted noted was))
   -- nor does what is received
   pub received : (time at : ℕ) (outcome : Outcome) (noted : NotedState) (was : SessionState) → PathSleeps time was
       → BeginsNoProbe time at was → PathSleeps time (with_sign outcome at (with_noted noted was))
+  -- nor does the use of a peer, by data of it or for it
+  pub used : (time at : ℕ) (peer : SocketAddr) (s : SessionState) → PathSleeps time s → PathSleeps time (used_peer peer at s)
+  -- if no peer is ever idle, by the settings, no use is noted, and nothing is ever to be done about one
+  pub unused : (peer : SocketAddr) (at : ℕ) (s : SessionState) → s.idle.idle ≡ None → used_peer peer at s ≡ s
+  pub idle : (now : ℕ) (granted : List HeldGrant) (s : SessionState) → s.idle.idle ≡ None → idle_step granted now s.idle ≡ (Off, s.idle)
 
 -- ---- worked, with times in nanoseconds: a path that is probed each second, over UDP, has sent two requests of its first probe
 

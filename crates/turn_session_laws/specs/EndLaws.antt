@@ -23,6 +23,7 @@ use Rattle.turn_session_client.specs.Polling.{Polls, transmitted}
 use Rattle.turn_session_client.specs.Receiving.{Receives}
 use Rattle.turn_session_client.specs.Reporting.{reported_step}
 use Rattle.turn_session_client.specs.Sending.{sent_step}
+use Rattle.turn_session_client.specs.Sockets.{after_writing}
 
 -- it has ended, or it leaves and has ended by this time
 abbrev pub EndsBy : ℕ → Phase → Type 0
@@ -57,6 +58,7 @@ pub record NothingFollows : Type 0 where
   pub sent : (transport : TransportType) (peer : SocketAddr) (bytes : List ℕ) (now : ℕ) (s : NotedState) (why : Why) → s.life.phase ≡ Phases.Over why
       → sent_step transport peer bytes now s ≡ (Err NoAllocation, s)
   pub failed : (tag : Tag) (now : ℕ) (s : NotedState) (why : Why) → s.life.phase ≡ Phases.Over why → after_socket_error tag now s ≡ s
+  pub written : (now : ℕ) (s : NotedState) (why : Why) → s.life.phase ≡ Phases.Over why → after_writing now s ≡ s
   pub left : (now : ℕ) (s : NotedState) (why : Why) → s.life.phase ≡ Phases.Over why → left now s ≡ s
   pub left_for : (now : ℕ) (s : NotedState) (why other : Why) → s.life.phase ≡ Phases.Over why → left_for other now s ≡ s
   pub ended : (s : NotedState) (why other : Why) → s.life.phase ≡ Phases.Over why → ended other s ≡ s

@@ -10,4 +10,5 @@ pub mod OutcomeLaws
 pub mod PathEnds
 pub mod PathRuns
 pub mod RequestLaws
+pub mod RunLaws
 pub mod SleepLaws

@@ -16,6 +16,7 @@ use Rattle.turn_session_client.specs.Asking.{added}
 use Rattle.turn_session_client.specs.Drain.{drained}
 use Rattle.turn_session_client.specs.Expiring.{expiry_noted}
 use Rattle.turn_session_client.specs.NotedState.{NotedState}
+use Rattle.turn_session_client.specs.Polling.{next_made}
 use Rattle.turn_session_client.specs.Reporting.{reported_step}
 
 -- ---- what the caller is owed
@@ -53,8 +54,10 @@ pub record OneOutcome : Type 0 where
       → owed ticket (added key progress s).1.notes.book ≡ owed ticket s.notes.book + is_new ticket key s
   -- events of the client, failures and settlements change nothing of that
   pub noted : (ticket now : ℕ) (s : NotedState) → owed ticket (drained now s).notes.book ≡ owed ticket s.notes.book
-  -- nor does what happens without one: what expires, is closed, or needs a permission
+  -- nor does what happens without one: what expires, is closed, or has its permission refused or granted
   pub expired : (ticket now : ℕ) (s : NotedState) → owed ticket (expiry_noted now s).1.notes.book ≡ owed ticket s.notes.book
+  -- nor a request that is made of the client
+  pub made : (ticket now : ℕ) (s : NotedState) → owed ticket (next_made now s).1.notes.book ≡ owed ticket s.notes.book
   pub failed : (ticket : ℕ) (key : Key) (error : Option ErrorReply) (now : ℕ) (b : BookState) → owed ticket (after_failure key error now b) ≡ owed ticket b
   pub settled : (ticket : ℕ) (key : Key) (outcome : Outcome) (b : BookState) → owed ticket (after_settlement key outcome b) ≡ owed ticket b
   -- until it is reported

@@ -1,5 +1,5 @@
 -- Laws of sleep: before the time that `poll` tells nothing is due.
-use Rattle.std.specs.Prelude.{◌≡◌, ◌⊎◌, ℕ, ◌<◌, ◌≤◌, true, false, [], Option, Some, None}
+use Rattle.std.specs.Prelude.{◌≡◌, ◌⊎◌, ℕ, ◌<◌, ◌≤◌, true, false, List, [], Option, Some, None}
 use Rattle.turn_stun.specs.declared.transport.TransportType.TheVariants.{Udp}
 use Rattle.turn_agent.specs.TransactionIds.{Source}
 use Rattle.turn_client_api.specs.Alarm.{IsIdleUntil, IsTimely}
@@ -7,6 +7,11 @@ use Rattle.turn_client_api.specs.Poll.{poll_step}
 use Rattle.turn_client_api.specs.State.{State}
 use Rattle.turn_client_api.specs.declared.state.Phase.TheVariants.{Requesting}
 use Rattle.turn_client_api.specs.declared.poll.TurnPollRet.TheVariants.{WaitUntil}
+use Rattle.turn_session_book.specs.declared.held.HeldGrant.{HeldGrant}
+use Rattle.turn_session_idle.specs.IdlePeers.{idle_step, looks_now}
+use Rattle.turn_session_idle.specs.IdleState.{IdleState}
+use Rattle.turn_session_idle.specs.declared.peers.IdleStep.{IdleStep}
+use Rattle.turn_session_idle.specs.declared.peers.IdleStep.TheVariants as Idling
 use Rattle.turn_session_path.specs.PathDue.{IsLater}
 use Rattle.turn_session_life.specs.Doubts.{doubts_step}
 use Rattle.turn_session_life.specs.Life.{is_running}
@@ -40,6 +45,10 @@ abbrev pub doubts_wait : Option ℕ → DoubtsStep
 doubts_wait None = Doubting.Idle
 doubts_wait (Some time) = Doubting.WaitUntil time
 
+abbrev pub idle_waits : Option ℕ → IdleStep
+idle_waits None = Idling.Off
+idle_waits (Some time) = Idling.WaitUntil time
+
 -- ---- a client that waits
 
 -- what `TurnClientApi::poll` promises of its time
@@ -70,6 +79,12 @@ doubts_time now (Doubted.WaitUntil time) = Some time
 doubts_time now Doubted.Idle = None
 doubts_time now Doubted.NoMemory = Some (shortage_end now)
 
+-- without memory for a look idle peers are polled again after 100 ms
+abbrev pub IdleTells : ℕ → List HeldGrant → IdleState → IdleState → Option ℕ → Type 0
+IdleTells now granted was s time =
+    (idle_step granted now was ≡ (idle_waits time, s))
+    ⊎ ((looks_now now was ≡ true) × (s ≡ was) × (time ≡ Some (shortage_end now)))
+
 pub record TellsSoonest (now time : ℕ) (was s : SessionState) : Type 0 where
   pub path : Option ℕ
   pub path_waits : watch_step now (begun now was).watch ≡ (path_waits path, s.watch)
@@ -78,6 +93,9 @@ pub record TellsSoonest (now time : ℕ) (was s : SessionState) : Type 0 where
   pub said : DoubtsPoll
   pub doubts_wait : PollsDoubts now (begun now was).noted noted said
   pub of_doubts : IsNotAfter time (doubts_time now said)
+  pub idle : Option ℕ
+  pub idle_tells : IdleTells now noted.notes.book.held was.idle s.idle idle
+  pub of_idle : IsNotAfter time idle
   -- the path has learned what was received
   pub received : s.received ≡ None
   pub told : ℕ
@@ -93,6 +111,9 @@ pub record SleepsThroughNothing : Type 0 where
       → watch_step later w ≡ (path_waits time, w)
   pub doubts : (now later : ℕ) (time : Option ℕ) (was d : Doubts) → doubts_step now was ≡ (doubts_wait time, d) → IsLater later time
       → doubts_step later d ≡ (doubts_wait time, d)
+  -- whatever is granted then
+  pub idle : (now later : ℕ) (time : Option ℕ) (granted others : List HeldGrant) (was s : IdleState)
+      → idle_step granted now was ≡ (idle_waits time, s) → IsLater later time → idle_step others later s ≡ (idle_waits time, s)
   pub verdict : (now time later : ℕ) (was s : NotedState) → ClientWaits now time was s → now < time → later < time
       → (verdict_noted later s ≡ (false, s)) × (first_expired s ≡ None)
   pub client : (now time : ℕ) (was s : NotedState) → IsPolledTimely now was.client → ClientWaits now time was s → now < time

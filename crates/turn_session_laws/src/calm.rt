@@ -9,7 +9,8 @@ ghost use Rattle.turn_session_laws.specs.CalmLaws.{DataMakesNothingDue, busy_pat
 /// Data of peers makes nothing due before the time that `poll` has told. From such a poll on the path of an open session has
 /// nothing to do before that time, also after data was sent and received, in the order of their times; unless a probe is under way
 /// and the next one is due before that time, since what is received ends the one. Of the client this is its own law,
-/// `turn_client_runs::traffic_is_calm`, and nothing else is noted of data, by [`data_is_the_clients`](crate::data_is_the_clients).
+/// `turn_client_runs::traffic_is_calm`. By [`data_is_the_clients`](crate::data_is_the_clients) nothing else is noted of data but the
+/// use of the peer, and that only if peers may be idle, by the settings: then data may keep again what an idle peer was granted.
 pub fn data_makes_nothing_due()
     ensures { DataMakesNothingDue }
 {}

@@ -9,8 +9,9 @@ ghost use Rattle.turn_session_laws.specs.HealthLaws.{checked_doubts, third_check
 ghost use Rattle.turn_session_laws.specs.SleepLaws.{SleepsThroughNothing, WaitsLong, doubts_wait, path_waits, probed_watch};
 
 /// Who calls again at the time that `poll` has told, and calls nothing else meanwhile, misses nothing. An open session tells the
-/// soonest of the times of its path, of the doubts of its allocation and of its client, and another one that of its client. Path
-/// and doubts that are polled before their time do nothing and tell it again. A client that tells a later time had nothing to note
+/// soonest of the times of its path, of the doubts of its allocation, of its idle peers and of its client, and another one that of
+/// its client. Path, doubts and idle peers that are polled before their time do nothing and tell it again; idle peers for whose look
+/// memory was wanted are polled again after 100 ms. A client that tells a later time had nothing to note
 /// and no request to make; or it wants memory, and then the time is 100 ms from the call. Otherwise nothing of it is due before
 /// that time, if it keeps what `TurnClientApi::poll` promises: no verdict on a session that opens comes, nothing has ended with its
 /// allocation, and while the path waits too no packet is to be sent.

@@ -11,7 +11,7 @@ use Rattle.turn_client_api.specs.State.{State}
 use Rattle.turn_client_api.specs.declared.poll.TurnPollRet.{TurnPollRet}
 use Rattle.turn_client_api.specs.declared.poll.TurnPollRet.TheVariants as Answered
 use Rattle.turn_session_book.specs.Keys.{permission_for}
-use Rattle.turn_session_book.specs.OpenRequests.{first_closed, first_denied, first_unpermitted}
+use Rattle.turn_session_book.specs.OpenRequests.{first_closed, first_denied, is_unpermitted}
 use Rattle.turn_session_book.specs.declared.causes.Why.{Why}
 use Rattle.turn_session_book.specs.declared.causes.Why.TheVariants.{Closed, GrantSilent, OutOfMemory}
 use Rattle.turn_session_book.specs.declared.keys.Key.{Key}
@@ -37,15 +37,16 @@ use Rattle.turn_session_client.specs.Expiring.{ClosedWaits, ExpiryWaits, closed_
 use Rattle.turn_session_client.specs.Making.{made}
 use Rattle.turn_session_client.specs.Notes.{is_asked}
 use Rattle.turn_session_client.specs.NotedState.{NotedState}
-use Rattle.turn_session_client.specs.Permitting.{DeniedWaits, PermissionWaits, PermitWaits, UnpermittedWaits, denied_noted, permission_made}
-use Rattle.turn_session_client.specs.Permitting.{permission_taken, permit_noted, unpermitted_noted}
-use Rattle.turn_session_client.specs.Polling.{AfterPoll, Closes, ExpiredOrWent, ExpiresOrGoesOn, IsCause, IsShort, MakesOrPolls, NextWaitsOn, Polls, PollsClient, PollsNoted, PollsRunning, WaitsOn, cause_noted, opened, silent_grant, verdict_noted, waiting, waiting_made}
+use Rattle.turn_session_client.specs.Permitting.{DeniedWaits, PermissionWaits, PermittedWaits, denied_noted, first_permitted, permission_made}
+use Rattle.turn_session_client.specs.Permitting.{permission_taken, permitted_noted}
+use Rattle.turn_session_client.specs.Polling.{AfterPoll, Closes, ExpiredOrWent, ExpiresOrGoesOn, IsCause, IsShort, MakesOrPolls, NextWaitsOn, Polls, PollsClient, PollsNoted, PollsRunning, RequestWaits, WaitsOn, cause_noted, opened, request_made, silent_grant, verdict_noted, waiting, waiting_made}
 use Rattle.turn_session_client.specs.Receiving.{Receives, answers_nothing, heard_step, is_taken, received, reply_for, with_hints, with_mapped, with_reply}
 use Rattle.turn_session_client.specs.Reading.{response_to}
 use Rattle.turn_session_client.specs.Waiting.{is_full, next_to_make}
 use Rattle.turn_session_client.specs.declared.making.Made.{Made}
 use Rattle.turn_session_client.specs.declared.making.Made.TheVariants as Client
 use Rattle.turn_session_client.specs.declared.reading.Reading.{Reading}
+use Rattle.turn_session_client.proofs.DrainLemmas.{some-same}
 use Rattle.turn_session_laws.specs.CauseLaws.{IsCauseOfPoll, IsOfServer}
 use Rattle.turn_session_laws.proofs.causes.ends_have_causes.Goals as goal
 
@@ -118,9 +119,11 @@ runs-at transport from to bytes now was s Opening true a running h =
 runs-at transport from to bytes now was s Open true a running h =
     let same : s ≡ at Open was = rw a at h in rw (ap (λ (t : NotedState). t.life.phase) same) running
 runs-at transport from to bytes now was s Opening false a running h =
-    let heard = rw a at h in runs-on transport from to bytes heard.0 now (at Opening was) s refl heard.2
+    let heard = rw a at h in runs-on transport from to bytes heard.0 now (at Opening was) s refl
+    (some-same now (heard_step transport from to bytes heard.0 now (at Opening was)) s heard.2)
 runs-at transport from to bytes now was s Open false a running h =
-    let heard = rw a at h in runs-on transport from to bytes heard.0 now (at Open was) s refl heard.2
+    let heard = rw a at h in runs-on transport from to bytes heard.0 now (at Open was) s refl
+    (some-same now (heard_step transport from to bytes heard.0 now (at Open was)) s heard.2)
 runs-at transport from to bytes now was s (Leaving leave) nothing a running h = cc
 runs-at transport from to bytes now was s (Over before) nothing a running h = cc
 
@@ -176,7 +179,8 @@ closes : (now : ℕ) (was s : NotedState) (answer : TurnPollRet) (why : Why) →
 closes now was s answer why running (inl ends) is =
     let end = ends.1 in let one = ended-by (drained now was) s why end.0 running end.2 is in
     of-server now was why (subst (λ (w : Why). IsCause now was w) (sym one) end.1)
-closes now was s answer why running (inr short) is = absurd (same-life was s why running (ap (λ (t : NotedState). t.life) short.1) is)
+closes now was s answer why running (inr short) is =
+    absurd (same-life was s why running (ap (λ (t : NotedState). t.life) (some-same now was s short.1)) is)
 
 waiting-keeps : (time now : ℕ) (s : NotedState) → (waiting time now s).life ≡ s.life
 waiting-keeps time now s = elim (cases_Bool (nat_lt now time)) [
@@ -205,7 +209,7 @@ client-polled now was s answer why running (inl after) is =
 client-polled now was s answer why running (inr short) is =
     inr (ended-by (record was { client = closed was.client }) s why OutOfMemory running short.1 is)
 
--- ---- a request that waits is made first
+-- ---- a request that waits is made first, or one for the permission that another needs
 
 made-keeps : (r : OpenRequest) (relays : TransportType) (now : ℕ) (s : NotedState) (p : Made × State) → made r.key relays now s.client ≡ p
     → (waiting_made r relays now s).life ≡ s.life
@@ -216,6 +220,26 @@ made-keeps r relays now s (Client.NoMemory, client) e = rw e refl
 waits-keeps : (key : Key) (relays : TransportType) (now : ℕ) (was s : NotedState) → WaitsOn key relays now was s → s.life ≡ was.life
 waits-keeps key relays now was s (inl same) = ap (λ (t : NotedState). t.life) same
 waits-keeps key relays now was s (inr refused) = ap (λ (t : NotedState). t.life) refused
+
+asked-keeps : (r : OpenRequest) (relays : TransportType) (now : ℕ) (s : NotedState) (p : Made × State) → made (permission_for r.key) relays now s.client ≡ p
+    → (permission_made r relays now s).life ≡ s.life
+asked-keeps r relays now s (Client.Queued, client) e = rw e refl
+asked-keeps r relays now s (Client.Refused error, client) e = rw e refl
+asked-keeps r relays now s (Client.NoMemory, client) e = rw e refl
+
+request-keeps : (r : OpenRequest) (relays : TransportType) (now : ℕ) (s : NotedState) (is : Bool) → is_unpermitted r.progress ≡ is
+    → (request_made r relays now s).life ≡ s.life
+request-keeps r relays now s true u = rw u (asked-keeps r relays now s (made (permission_for r.key) relays now s.client) refl)
+request-keeps r relays now s false u = rw u (made-keeps r relays now s (made r.key relays now s.client) refl)
+
+permission-waits : (r : OpenRequest) (relays : TransportType) (now : ℕ) (was s : NotedState) → PermissionWaits r relays now was s → s.life ≡ was.life
+permission-waits r relays now was s (inl same) = ap (λ (t : NotedState). t.life) same
+permission-waits r relays now was s (inr refused) = ap (λ (t : NotedState). t.life) refused
+
+request-waits : (r : OpenRequest) (relays : TransportType) (now : ℕ) (was s : NotedState) (is : Bool) → is_unpermitted r.progress ≡ is
+    → RequestWaits r relays now was s → s.life ≡ was.life
+request-waits r relays now was s true u h = permission-waits r relays now was s (rw u at h)
+request-waits r relays now was s false u h = waits-keeps r.key relays now was s (rw u at h)
 
 abbrev relaying : Option TransportType → NotedState → NotedState
 relaying relays s = record s { notes = record s.notes { relays = relays } }
@@ -231,9 +255,11 @@ makes now was s answer why (Some relays) (Some r) n running h is =
     t : NotedState
     t = relaying (Some relays) was
 
-    by : ((answer ≡ Answered.WaitUntil now) × (s ≡ waiting_made r relays now t)) ⊎ (IsShort now answer × NextWaitsOn now t s) → ⊥
-    by (inl one) = same-life was s why running (ap (λ (u : NotedState). u.life) one.1 ∙ made-keeps r relays now t (made r.key relays now t.client) refl) is
-    by (inr short) = same-life was s why running (waits-keeps r.key relays now t s (rw (n, NextWaitsOn) at short.1)) is
+    by : ((answer ≡ Answered.WaitUntil now) × (s ≡ request_made r relays now t)) ⊎ (IsShort now answer × NextWaitsOn now t s) → ⊥
+    by (inl one) =
+        same-life was s why running (ap (λ (u : NotedState). u.life) one.1 ∙ request-keeps r relays now t (is_unpermitted r.progress) refl) is
+    by (inr short) =
+        same-life was s why running (request-waits r relays now t s (is_unpermitted r.progress) refl (rw (n, NextWaitsOn) at short.1)) is
 
 -- ---- what has expired is noted before, and what needs a permission
 
@@ -249,30 +275,13 @@ taken-keeps (Permission ip) permission s false asked = rw asked refl
 taken-keeps (Channel peer) permission s false asked = rw asked refl
 taken-keeps (Connect peer) permission s false asked = rw asked refl
 
-asked-keeps : (r : OpenRequest) (relays : TransportType) (now : ℕ) (s : NotedState) (p : Made × State) → made (permission_for r.key) relays now s.client ≡ p
-    → (permission_made r relays now s).life ≡ s.life
-asked-keeps r relays now s (Client.Queued, client) e = rw e refl
-asked-keeps r relays now s (Client.Refused error, client) e = rw e refl
-asked-keeps r relays now s (Client.NoMemory, client) e = rw e refl
-
-permits : (r : OpenRequest) (relays : TransportType) (now : ℕ) (s : NotedState) (is full : Bool) → is_granted (permission_for r.key) s ≡ is
-    → is_full s ≡ full → Notes s (permit_noted r relays now s)
-permits r relays now s true full g b =
-    rw g (taken-keeps r.key (permission_for r.key) s (is_asked (permission_for r.key) s.notes) refl)
-permits r relays now s false true g b = rw (g, b) refl
-permits r relays now s false false g b = rw (g, b) (asked-keeps r relays now s (made (permission_for r.key) relays now s.client) refl)
-
-unpermitted : (now : ℕ) (s : NotedState) (relays : Option TransportType) (first : Option OpenRequest) → first_unpermitted s.notes.book.requests ≡ first
-    → Notes (relaying relays s) (unpermitted_noted now (relaying relays s))
-unpermitted now s None first f = refl
-unpermitted now s (Some relays) None f = rw f refl
-unpermitted now s (Some relays) (Some r) f =
-    let t = relaying (Some relays) s in
-    rw f (permits r relays now t (is_granted (permission_for r.key) t) (is_full t) refl refl)
+permitted-notes : (s : NotedState) (first : Option OpenRequest) → first_permitted s ≡ first → Notes s (permitted_noted s)
+permitted-notes s (Some r) f = rw f (taken-keeps r.key (permission_for r.key) s (is_asked (permission_for r.key) s.notes) refl)
+permitted-notes s None f = rw f refl
 
 denied-notes : (now : ℕ) (s : NotedState) (first : Option OpenRequest) → first_denied s.notes.book.requests ≡ first → Notes s (denied_noted now s)
 denied-notes now s (Some r) f = rw f refl
-denied-notes now s None f = rw f (unpermitted now s s.notes.relays (first_unpermitted s.notes.book.requests) refl)
+denied-notes now s None f = rw f (permitted-notes s (first_permitted s) refl)
 
 settled-keeps : (r : OpenRequest) (s : NotedState) (again : Bool) → r.is_repeated ≡ again → (closed_settled r s).life ≡ s.life
 settled-keeps r s true again = rw again refl
@@ -287,29 +296,15 @@ expiry-notes now s (Some key) f = rw f refl
 expiry-notes now s None f = rw f (closed-notes now s (first_closed s.notes.book.requests) refl)
 
 -- without memory the life goes on too
-permission-waits : (r : OpenRequest) (relays : TransportType) (now : ℕ) (was s : NotedState) → PermissionWaits r relays now was s → s.life ≡ was.life
-permission-waits r relays now was s (inl same) = ap (λ (t : NotedState). t.life) same
-permission-waits r relays now was s (inr refused) = ap (λ (t : NotedState). t.life) refused
-
-permit-waits : (r : OpenRequest) (relays : TransportType) (now : ℕ) (was s : NotedState) (is full : Bool) → is_granted (permission_for r.key) was ≡ is
-    → is_full was ≡ full → PermitWaits r relays now was s → s.life ≡ was.life
-permit-waits r relays now was s true full g b h = let same : s ≡ was = rw g at h in ap (λ (t : NotedState). t.life) same
-permit-waits r relays now was s false true g b h = absurd (rw (g, b) at h)
-permit-waits r relays now was s false false g b h = permission-waits r relays now was s (rw (g, b) at h)
-
-unpermitted-waits : (now : ℕ) (was s : NotedState) (relays : Option TransportType) (first : Option OpenRequest)
-    → first_unpermitted was.notes.book.requests ≡ first → UnpermittedWaits now (relaying relays was) s → s.life ≡ was.life
-unpermitted-waits now was s None first f h = absurd h
-unpermitted-waits now was s (Some relays) None f h = absurd (rw f at h)
-unpermitted-waits now was s (Some relays) (Some r) f h =
-    let t = relaying (Some relays) was in
-    permit-waits r relays now t s (is_granted (permission_for r.key) t) (is_full t) refl refl (rw f at h)
+permitted-waits : (was s : NotedState) (first : Option OpenRequest) → first_permitted was ≡ first → PermittedWaits was s → s.life ≡ was.life
+permitted-waits was s (Some r) f h = let same : s ≡ was = rw f at h in ap (λ (t : NotedState). t.life) same
+permitted-waits was s None f h = absurd (rw f at h)
 
 denied-waits : (now : ℕ) (was s : NotedState) (first : Option OpenRequest) → first_denied was.notes.book.requests ≡ first → DeniedWaits now was s
     → s.life ≡ was.life
 denied-waits now was s (Some r) f h = let same : s ≡ was = rw f at h in ap (λ (t : NotedState). t.life) same
 denied-waits now was s None f h =
-    unpermitted-waits now was s was.notes.relays (first_unpermitted was.notes.book.requests) refl (rw f at h)
+    permitted-waits was s (first_permitted was) refl (rw f at h)
 
 closed-waits : (now : ℕ) (was s : NotedState) (first : Option OpenRequest) → first_closed was.notes.book.requests ≡ first → ClosedWaits now was s
     → s.life ≡ was.life
@@ -379,7 +374,8 @@ runs : (now : ℕ) (was s : NotedState) (answer : TurnPollRet) (why : Why) → i
 runs now was s answer why running (inl noted) is =
     let t = drained now was in
     caused now (opened t) s answer why (silent_grant t) refl (opens was.life was.life.phase (is_some t.notes.relays) running) noted is
-runs now was s answer why running (inr short) is = absurd (same-life was s why running (ap (λ (t : NotedState). t.life) short.1) is)
+runs now was s answer why running (inr short) is =
+    absurd (same-life was s why running (ap (λ (t : NotedState). t.life) (some-same now was s short.1)) is)
 
 polled-at : (now : ℕ) (was s : NotedState) (answer : TurnPollRet) (why : Why) (phase : Phase) → is_running phase ≡ true → Polls now (at phase was) s answer
     → cause_in s.life.phase ≡ Some why → IsCauseOfPoll now (at phase was) why

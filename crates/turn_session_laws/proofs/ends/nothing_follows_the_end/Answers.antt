@@ -13,6 +13,7 @@ use Rattle.turn_session_client.specs.NotedState.{NotedState}
 use Rattle.turn_session_client.specs.Polling.{Polls, transmitted}
 use Rattle.turn_session_client.specs.Receiving.{Receives}
 use Rattle.turn_session_client.specs.Sending.{sent_step}
+use Rattle.turn_session_client.specs.Sockets.{after_writing}
 use Rattle.turn_session_laws.proofs.ends.nothing_follows_the_end.Goals as goal
 
 abbrev at : Phase → NotedState → NotedState
@@ -40,6 +41,7 @@ returns c = record {
   sent = λ transport peer bytes now s why over.
       ended-for s why (λ t. sent_step transport peer bytes now t ≡ (Err NoAllocation, t)) over refl;
   failed = λ tag now s why over. ended-for s why (λ t. after_socket_error tag now t ≡ t) over refl;
+  written = λ now s why over. ended-for s why (λ t. after_writing now t ≡ t) over refl;
   left = λ now s why over. ended-for s why (λ t. left now t ≡ t) over refl;
   left_for = λ now s why other over. ended-for s why (λ t. left_for other now t ≡ t) over (leaves-at now s why other);
   ended = λ s why other over. ended-for s why (λ t. ended other t ≡ t) over refl;

@@ -15,7 +15,7 @@ use Rattle.turn_session_book.specs.BookState.{BookState}
 use Rattle.turn_session_book.specs.First.{with_first}
 use Rattle.turn_session_book.specs.Held.{is_held, is_kept_in}
 use Rattle.turn_session_book.specs.Keys.{permission_for}
-use Rattle.turn_session_book.specs.OpenRequests.{awaits, denied, first_closed, first_denied, first_unpermitted, is_clients_in, is_for, new_request, progressed, repeated, request_for}
+use Rattle.turn_session_book.specs.OpenRequests.{awaits, denied, denied_with, depends_on, first_closed, first_denied, is_clients_in, is_for, is_unpermitted, new_request, progressed, repeated, request_for}
 use Rattle.turn_session_book.specs.OpenRequests.{with_denied, with_progress, with_repeated, with_resumed, without_request}
 use Rattle.turn_session_book.specs.declared.answers.Outcome.{Outcome}
 use Rattle.turn_session_book.specs.declared.answers.Outcome.TheVariants.{Granted, NotMade, NotBound}
@@ -26,7 +26,7 @@ use Rattle.turn_session_book.specs.declared.keys.Key.{Key}
 use Rattle.turn_session_book.specs.declared.keys.Key.TheVariants.{Permission, Channel, Connect}
 use Rattle.turn_session_book.specs.declared.open_requests.OpenRequest.{OpenRequest}
 use Rattle.turn_session_book.specs.declared.open_requests.Progress.{Progress}
-use Rattle.turn_session_book.specs.declared.open_requests.Progress.TheVariants.{Waiting, Unpermitted, Permitting}
+use Rattle.turn_session_book.specs.declared.open_requests.Progress.TheVariants.{Waiting, Queued, Unpermitted, Permitting}
 use Rattle.turn_session_book.specs.declared.replies.ErrorReply.{ErrorReply}
 use Rattle.turn_session_book.proofs.FirstLemmas.{position-IsFirst, position-none, with_first-none, with_first-some, without_first-none, without_first-some}
 use Rattle.turn_session_life.specs.Life.{cause_in, ending_report, over_report}
@@ -34,15 +34,16 @@ use Rattle.turn_session_life.specs.declared.life.Phase.{Phase}
 use Rattle.turn_session_life.specs.declared.life.Phase.TheVariants.{Opening, Open, Leaving, Over}
 use Rattle.turn_session_life.specs.declared.life.Report.{Report}
 use Rattle.turn_session_life.specs.declared.life.Report.TheVariants.{NotYet, Due, Done}
-use Rattle.turn_session_client.specs.Asking.{added, is_granted}
+use Rattle.turn_session_client.specs.Asking.{added}
 use Rattle.turn_session_client.specs.Drain.{all_noted, unnoted}
 use Rattle.turn_session_client.specs.Expiring.{closed_noted, closed_settled, expiry_noted, first_expired}
 use Rattle.turn_session_client.specs.Making.{made}
 use Rattle.turn_session_client.specs.NotedState.{NotedState}
 use Rattle.turn_session_client.specs.Notes.{failed, granted, is_asked, is_question, noted, question_failed, without_question}
-use Rattle.turn_session_client.specs.Permitting.{denied_noted, permission_made, permission_taken, permit_noted, unpermitted_noted}
+use Rattle.turn_session_client.specs.Permitting.{denied_noted, first_permitted, permission_made, permission_taken, permitted_noted}
+use Rattle.turn_session_client.specs.Polling.{next_made, request_made, waiting_made}
 use Rattle.turn_session_client.specs.Reporting.{ending_reported, heard_reported, noted_reported, or_next, over_reported, reported_end, reported_if, reported_outcome, reported_step}
-use Rattle.turn_session_client.specs.Waiting.{is_full}
+use Rattle.turn_session_client.specs.Waiting.{next_to_make}
 use Rattle.turn_session_client.specs.declared.making.Made.{Made}
 use Rattle.turn_session_client.specs.declared.making.Made.TheVariants as Client
 use Rattle.turn_session_client.specs.declared.notes.Notes.{Notes}
@@ -91,9 +92,22 @@ changed ticket p f rs keeps = changed-at ticket p f rs (position p rs) keeps ref
 resumes : (ticket : ℕ) (key : Key) (rs : List OpenRequest) → sum_by (has_ticket ticket) (with_resumed key rs) ≡ sum_by (has_ticket ticket) rs
 resumes ticket key rs = changed ticket (awaits key) (progressed Unpermitted) rs (λ r. refl)
 
+-- one that is denied keeps its ticket
+either-ticket : (ticket : ℕ) (b : Bool) (x y : OpenRequest) → has_ticket ticket x ≡ has_ticket ticket y
+    → has_ticket ticket (if b then x else y) ≡ has_ticket ticket y
+either-ticket ticket true x y same = same
+either-ticket ticket false x y same = refl
+
 denies : (ticket : ℕ) (key : Key) (error : Option ErrorReply) (rs : List OpenRequest)
     → sum_by (has_ticket ticket) (with_denied key error rs) ≡ sum_by (has_ticket ticket) rs
-denies ticket key error rs = changed ticket (awaits key) (denied error) rs (λ r. refl)
+denies ticket key error [] = refl
+denies ticket key error (r ∷ rs) = omega (
+  arith,
+  sum_by-cons (has_ticket ticket) (denied_with key error r) (with_denied key error rs),
+  sum_by-cons (has_ticket ticket) r rs,
+  either-ticket ticket (depends_on key r) (denied error r) r refl,
+  denies ticket key error rs,
+)
 
 progresses : (ticket : ℕ) (key : Key) (progress : Progress) (rs : List OpenRequest)
     → sum_by (has_ticket ticket) (with_progress key progress rs) ≡ sum_by (has_ticket ticket) rs
@@ -214,37 +228,16 @@ taken-owes ticket (Channel peer) permission s false asked = rw asked (settled-ow
 taken-owes ticket (Connect peer) permission s false asked =
     rw asked (omega (arith, progresses ticket (Connect peer) Waiting s.notes.book.requests))
 
-made-owes : (ticket : ℕ) (r : OpenRequest) (relays : TransportType) (now : ℕ) (s : NotedState) (p : Made × State)
-    → made (permission_for r.key) relays now s.client ≡ p → owed ticket (permission_made r relays now s).notes.book ≡ owed ticket s.notes.book
-made-owes ticket r relays now s (Client.Queued, client) e = rw e (omega (arith, progresses ticket r.key Permitting s.notes.book.requests))
-made-owes ticket r relays now s (Client.Refused error, client) e = rw e (settled-owes ticket r.key (NotMade error) s.notes.book)
-made-owes ticket r relays now s (Client.NoMemory, client) e = rw e refl
-
-permitted-owes : (ticket : ℕ) (r : OpenRequest) (relays : TransportType) (now : ℕ) (s : NotedState) (is full : Bool)
-    → is_granted (permission_for r.key) s ≡ is → is_full s ≡ full
-    → owed ticket (permit_noted r relays now s).1.notes.book ≡ owed ticket s.notes.book
-permitted-owes ticket r relays now s true full g b =
-    rw g (taken-owes ticket r.key (permission_for r.key) s (is_asked (permission_for r.key) s.notes) refl)
-permitted-owes ticket r relays now s false true g b = rw (g, b) refl
-permitted-owes ticket r relays now s false false g b =
-    rw (g, b) (made-owes ticket r relays now s (made (permission_for r.key) relays now s.client) refl)
-
-abbrev relaying : Option TransportType → NotedState → NotedState
-relaying relays s = record s { notes = record s.notes { relays = relays } }
-
-unpermitted-owes : (ticket now : ℕ) (s : NotedState) (relays : Option TransportType) (first : Option OpenRequest)
-    → first_unpermitted s.notes.book.requests ≡ first
-    → owed ticket (unpermitted_noted now (relaying relays s)).1.notes.book ≡ owed ticket s.notes.book
-unpermitted-owes ticket now s None first f = refl
-unpermitted-owes ticket now s (Some relays) None f = rw f refl
-unpermitted-owes ticket now s (Some relays) (Some r) f =
-    let t = relaying (Some relays) s in
-    rw f (permitted-owes ticket r relays now t (is_granted (permission_for r.key) t) (is_full t) refl refl)
+permitted-owes : (ticket : ℕ) (s : NotedState) (first : Option OpenRequest) → first_permitted s ≡ first
+    → owed ticket (permitted_noted s).1.notes.book ≡ owed ticket s.notes.book
+permitted-owes ticket s (Some r) f =
+    rw f (taken-owes ticket r.key (permission_for r.key) s (is_asked (permission_for r.key) s.notes) refl)
+permitted-owes ticket s None f = rw f refl
 
 denial-owes : (ticket now : ℕ) (s : NotedState) (first : Option OpenRequest) → first_denied s.notes.book.requests ≡ first
     → owed ticket (denied_noted now s).1.notes.book ≡ owed ticket s.notes.book
 denial-owes ticket now s (Some r) f = rw f (settled-owes ticket r.key (failure_outcome r.error None) s.notes.book)
-denial-owes ticket now s None f = rw f (unpermitted-owes ticket now s s.notes.relays (first_unpermitted s.notes.book.requests) refl)
+denial-owes ticket now s None f = rw f (permitted-owes ticket s (first_permitted s) refl)
 
 again-owes : (ticket : ℕ) (r : OpenRequest) (s : NotedState) (again : Bool) → r.is_repeated ≡ again
     → owed ticket (closed_settled r s).notes.book ≡ owed ticket s.notes.book
@@ -260,6 +253,35 @@ expired-owes : (ticket now : ℕ) (s : NotedState) (first : Option Key) → firs
     → owed ticket (expiry_noted now s).1.notes.book ≡ owed ticket s.notes.book
 expired-owes ticket now s (Some key) f = rw f (failed-owes ticket key None now s.notes.book)
 expired-owes ticket now s None f = rw f (closed-owes ticket now s (first_closed s.notes.book.requests) refl)
+
+-- ---- a request is made of the client
+
+permission-owes : (ticket : ℕ) (r : OpenRequest) (relays : TransportType) (now : ℕ) (s : NotedState) (p : Made × State)
+    → made (permission_for r.key) relays now s.client ≡ p → owed ticket (permission_made r relays now s).notes.book ≡ owed ticket s.notes.book
+permission-owes ticket r relays now s (Client.Queued, client) e = rw e (omega (arith, progresses ticket r.key Permitting s.notes.book.requests))
+permission-owes ticket r relays now s (Client.Refused error, client) e = rw e (settled-owes ticket r.key (NotMade error) s.notes.book)
+permission-owes ticket r relays now s (Client.NoMemory, client) e = rw e refl
+
+waiting-owes : (ticket : ℕ) (r : OpenRequest) (relays : TransportType) (now : ℕ) (s : NotedState) (p : Made × State)
+    → made r.key relays now s.client ≡ p → owed ticket (waiting_made r relays now s).notes.book ≡ owed ticket s.notes.book
+waiting-owes ticket r relays now s (Client.Queued, client) e = rw e (omega (arith, progresses ticket r.key Queued s.notes.book.requests))
+waiting-owes ticket r relays now s (Client.Refused error, client) e = rw e (settled-owes ticket r.key (NotMade error) s.notes.book)
+waiting-owes ticket r relays now s (Client.NoMemory, client) e = rw e refl
+
+request-owes : (ticket : ℕ) (r : OpenRequest) (relays : TransportType) (now : ℕ) (s : NotedState) (is : Bool) → is_unpermitted r.progress ≡ is
+    → owed ticket (request_made r relays now s).notes.book ≡ owed ticket s.notes.book
+request-owes ticket r relays now s true u = rw u (permission-owes ticket r relays now s (made (permission_for r.key) relays now s.client) refl)
+request-owes ticket r relays now s false u = rw u (waiting-owes ticket r relays now s (made r.key relays now s.client) refl)
+
+abbrev relaying : Option TransportType → NotedState → NotedState
+relaying relays s = record s { notes = record s.notes { relays = relays } }
+
+next-owes : (ticket now : ℕ) (s : NotedState) (relays : Option TransportType) (next : Option OpenRequest) → next_to_make s ≡ next
+    → owed ticket (next_made now (relaying relays s)).1.notes.book ≡ owed ticket s.notes.book
+next-owes ticket now s None next n = refl
+next-owes ticket now s (Some relays) None n = rw n refl
+next-owes ticket now s (Some relays) (Some r) n =
+    rw n (request-owes ticket r relays now (relaying (Some relays) s) (is_unpermitted r.progress) refl)
 
 -- ---- a new request
 
@@ -378,6 +400,7 @@ returns c = record {
   added = λ ticket key progress s. added-owes ticket key progress s (request_for key s.notes.book.requests) refl;
   noted = λ ticket now s. all ticket (unnoted s) now s.notes;
   expired = λ ticket now s. expired-owes ticket now s (first_expired s) refl;
+  made = λ ticket now s. next-owes ticket now s s.notes.relays (next_to_make s) refl;
   failed = failed-owes;
   settled = settled-owes;
   reported = reported-pays;

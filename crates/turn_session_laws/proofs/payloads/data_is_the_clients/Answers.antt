@@ -1,42 +1,32 @@
-use Rattle.std.proofs.Common.{◌≡◌, ℕ, Bool, true, false, List, Option, Some, None, refl, sym, ap, ◌∙◌, inl, inr}
-use Rattle.std.specs.Prelude.{◌&&◌}
+use Rattle.std.proofs.Common.{◌≡◌, ℕ, Bool, true, false, List, Option, Some, None, refl, sym, ap, ◌∙◌}
 use Rattle.std.specs.declared.net.socket_addr.SocketAddr.{SocketAddr}
-use Rattle.std.proofs.lemmas.Bool.{cases_Bool, false≢true}
+use Rattle.std.proofs.lemmas.Bool.{false≢true}
 use Rattle.turn_stun.specs.declared.transport.TransportType.{TransportType}
 use Rattle.turn_client_api.specs.Calls.{send_to_step}
 use Rattle.turn_client_api.specs.Payloads.{Outcome}
 use Rattle.turn_client_api.specs.Receive.{recv_step}
 use Rattle.turn_client_api.specs.State.{State}
-use Rattle.turn_session_book.specs.Keys.{same_peer}
 use Rattle.turn_session_book.specs.declared.replies.ErrorReply.{ErrorReply}
 use Rattle.turn_session_life.specs.Life.{is_running}
 use Rattle.turn_session_life.specs.declared.life.Phase.{Phase}
 use Rattle.turn_session_life.specs.declared.life.Phase.TheVariants.{Opening, Open, Leaving, Over}
+use Rattle.turn_session_client.proofs.ChannelDataLemmas.{no-answer}
 use Rattle.turn_session_client.specs.Answering.{is_channel_data}
 use Rattle.turn_session_client.specs.Drain.{drained}
-use Rattle.turn_session_client.specs.Ending.{is_open, is_over}
+use Rattle.turn_session_client.specs.Ending.{is_over}
 use Rattle.turn_session_client.specs.NotedState.{NotedState}
-use Rattle.turn_session_client.specs.Reading.{IsReading, is_foreign}
+use Rattle.turn_session_client.specs.Reading.{IsReading}
 use Rattle.turn_session_client.specs.Receiving.{answers_nothing, heard_step, is_taken, outcome_in, received, reply_for}
 use Rattle.turn_session_client.specs.Receiving as Client
 use Rattle.turn_session_client.specs.Sending.{sent_step}
 use Rattle.turn_session_client.specs.declared.reading.Reading.{Reading}
-use Rattle.turn_session.specs.PathMessages.{response_in}
-use Rattle.turn_session.specs.Receiving.{Passes, Receives, is_of_server, outcome_after, path_step, with_sign}
+use Rattle.turn_session.proofs.ChannelDataLemmas.{passes}
+use Rattle.turn_session.specs.Receiving.{Passes, Receives, outcome_after, with_sign}
 use Rattle.turn_session.specs.SessionState.{SessionState, with_noted}
+use Rattle.turn_session_client.proofs.DrainLemmas.{some-same}
 use Rattle.turn_session_laws.proofs.payloads.data_is_the_clients.Goals as goal
 
 -- ---- it is no response
-
-no-response : (bytes : List ℕ) → is_channel_data bytes ≡ true → response_in bytes ≡ None
-no-response bytes channel = rw channel refl
-
-passes : (transport : TransportType) (from to : SocketAddr) (bytes : List ℕ) (now : ℕ) (s : SessionState) → is_channel_data bytes ≡ true
-    → path_step transport from to bytes now s ≡ (false, s)
-passes transport from to bytes now s channel = elim (cases_Bool (is_open s.noted.life.phase && is_of_server transport from to s.noted.client)) [
-  | inl is_so ↦ rw (is_so, no-response bytes channel) refl
-  | inr is_not ↦ rw is_not refl
-]
 
 before-end : (phase : Phase) (outcome : Outcome) → is_over phase ≡ false → outcome_in phase false outcome ≡ outcome
 before-end Opening outcome running = refl
@@ -44,18 +34,9 @@ before-end Open outcome running = refl
 before-end (Leaving leave) outcome running = refl
 before-end (Over why) outcome running = cc
 
-and-false : (a : Bool) → a && false ≡ false
-and-false true = refl
-and-false false = refl
-
--- nor does it answer a request by another method
-is-no-answer : (to : SocketAddr) (bytes : List ℕ) (client : State) → is_channel_data bytes ≡ true → answers_nothing to bytes client ≡ false
-is-no-answer to bytes client channel =
-    let no : is_foreign bytes client ≡ false = rw channel refl in rw no (and-false (same_peer to client.local))
-
 taken-in : (to : SocketAddr) (bytes : List ℕ) (client : State) (phase : Phase) (outcome : Outcome) → is_channel_data bytes ≡ true → is_over phase ≡ false
     → outcome_in phase (answers_nothing to bytes client) outcome ≡ outcome
-taken-in to bytes client phase outcome channel running = rw (is-no-answer to bytes client channel) (before-end phase outcome running)
+taken-in to bytes client phase outcome channel running = rw (no-answer to bytes client channel) (before-end phase outcome running)
 
 is-running : (phase : Phase) → is_running phase ≡ true → is_over phase ≡ false
 is-running Opening running = refl
@@ -95,11 +76,13 @@ receives-at : (transport : TransportType) (from to : SocketAddr) (bytes : List �
     → Client.Receives transport from to bytes now (at phase was) s
     → drained now s ≡ drained now (record (at phase was) { client = (recv_step transport from to bytes now was.client).1 })
 receives-at transport from to bytes now was s Opening running channel ignored h =
-    let heard = rw (is-no-answer to bytes was.client channel) at h in
-    notes-nothing transport from to bytes now (at Opening was) s heard.0 channel ignored heard.1 heard.2
+    let heard = rw (no-answer to bytes was.client channel) at h in
+    notes-nothing transport from to bytes now (at Opening was) s heard.0 channel ignored heard.1
+    (some-same now (heard_step transport from to bytes heard.0 now (at Opening was)) s heard.2)
 receives-at transport from to bytes now was s Open running channel ignored h =
-    let heard = rw (is-no-answer to bytes was.client channel) at h in
-    notes-nothing transport from to bytes now (at Open was) s heard.0 channel ignored heard.1 heard.2
+    let heard = rw (no-answer to bytes was.client channel) at h in
+    notes-nothing transport from to bytes now (at Open was) s heard.0 channel ignored heard.1
+    (some-same now (heard_step transport from to bytes heard.0 now (at Open was)) s heard.2)
 receives-at transport from to bytes now was s (Leaving leave) running channel ignored h = cc
 receives-at transport from to bytes now was s (Over why) running channel ignored h = cc
 

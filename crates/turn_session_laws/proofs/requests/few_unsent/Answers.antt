@@ -1,14 +1,13 @@
 use Rattle.std.proofs.Common.{◌≡◌, ℕ, Bool, Option, Some, None, true, false, refl}
 use Rattle.turn_stun.specs.declared.transport.TransportType.{TransportType}
 use Rattle.turn_session_book.specs.Keys.{permission_for}
-use Rattle.turn_session_book.specs.OpenRequests.{first_unpermitted}
 use Rattle.turn_session_book.specs.declared.keys.Key.{Key}
 use Rattle.turn_session_book.specs.declared.keys.Key.TheVariants.{Permission, Channel, Connect}
 use Rattle.turn_session_book.specs.declared.open_requests.OpenRequest.{OpenRequest}
-use Rattle.turn_session_client.specs.Asking.{begun, begun_over, is_granted, lacks_permission}
+use Rattle.turn_session_client.specs.Asking.{begun, begun_over, lacks_permission}
 use Rattle.turn_session_client.specs.NotedState.{NotedState}
 use Rattle.turn_session_client.specs.Notes.{is_asked}
-use Rattle.turn_session_client.specs.Permitting.{permission_taken, permit_noted, unpermitted_noted}
+use Rattle.turn_session_client.specs.Permitting.{first_permitted, permission_taken, permitted_noted}
 use Rattle.turn_session_client.specs.Polling.{next_made}
 use Rattle.turn_session_client.specs.Waiting.{is_full}
 use Rattle.turn_session_laws.proofs.requests.few_unsent.Goals as goal
@@ -30,7 +29,7 @@ waiting-at : (now : ℕ) (s : NotedState) (relays : Option TransportType) → is
 waiting-at now s None full = refl
 waiting-at now s (Some relays) full = rw full refl
 
--- ---- a permission that another request needs
+-- ---- a permission that another request needs is granted
 
 taken-at : (key permission : Key) (s : NotedState) (is_question : Bool) → is_asked permission s.notes ≡ is_question
     → (permission_taken key permission s).client ≡ s.client
@@ -39,23 +38,13 @@ taken-at (Permission ip) permission s false asked = rw asked refl
 taken-at (Channel peer) permission s false asked = rw asked refl
 taken-at (Connect peer) permission s false asked = rw asked refl
 
-permits-at : (r : OpenRequest) (relays : TransportType) (now : ℕ) (s : NotedState) (is : Bool) → is_granted (permission_for r.key) s ≡ is → is_full s ≡ true
-    → (permit_noted r relays now s).1.client ≡ s.client
-permits-at r relays now s true granted full =
-    rw granted (taken-at r.key (permission_for r.key) s (is_asked (permission_for r.key) s.notes) refl)
-permits-at r relays now s false granted full = rw (granted, full) refl
-
-permitting-at : (now : ℕ) (s : NotedState) (relays : Option TransportType) (first : Option OpenRequest)
-    → first_unpermitted s.notes.book.requests ≡ first → is_full s ≡ true
-    → (unpermitted_noted now (relaying relays s)).1.client ≡ s.client
-permitting-at now s None first f full = refl
-permitting-at now s (Some relays) None f full = rw f refl
-permitting-at now s (Some relays) (Some r) f full =
-    let t = relaying (Some relays) s in rw f (permits-at r relays now t (is_granted (permission_for r.key) t) refl full)
+permitted-at : (s : NotedState) (first : Option OpenRequest) → first_permitted s ≡ first → (permitted_noted s).1.client ≡ s.client
+permitted-at s (Some r) f = rw f (taken-at r.key (permission_for r.key) s (is_asked (permission_for r.key) s.notes) refl)
+permitted-at s None f = rw f refl
 
 pub returns : goal.returns
 returns c = record {
   new = λ key now s full. new-at key now s s.notes.relays full;
   waiting = λ now s full. waiting-at now s s.notes.relays full;
-  permitting = λ now s full. permitting-at now s s.notes.relays (first_unpermitted s.notes.book.requests) refl full;
+  permitted = λ s. permitted-at s (first_permitted s) refl;
 }
