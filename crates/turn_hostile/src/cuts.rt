@@ -6,12 +6,11 @@ ghost use Rattle.turn_client_calls.specs.Run.{IsCallable};
 
 use crate::session::{call_of, head_of};
 use std::alloc::Global;
-use std::net::SocketAddr;
 use turn_client_api::{Call, TurnClientApi, TurnRecvRet};
 use turn_client_calls::reply_to;
-use turn_hostile_net::draws::Draws;
+use turn_hostile_net::cuts::{Cut, Cuts, Payloads};
 use turn_hostile_net::fault::{Fault, expect};
-use turn_hostile_net::world::{Kind, number_of};
+use turn_hostile_net::world::Kind;
 use turn_line_client::client::new_client;
 use turn_stun::data::Data;
 use turn_stun::instant::Instant;
@@ -21,26 +20,11 @@ use turn_types::TransportType;
 /// More pieces, and more payloads, than there are at once here.
 const MANY: u32 = 4_096;
 
-/// The pieces of a stream.
-#[derive(Clone, Copy)]
-enum Cut {
-    /// As they were.
-    Whole,
-    /// Byte by byte.
-    Bytes,
-    /// At drawn places.
-    Drawn,
-}
-
 /// How streams are cut, and what payloads a client then returns.
 #[derive(Drop)]
 struct Pieces {
-    cut: Cut,
-    draws: Draws,
-    /// Whether the peers' bytes are streams too, so that payloads have no bounds.
-    is_stream: bool,
-    /// The payloads, each with its length before it, and before each byte the number of its peer.
-    payloads: Vec<u8>,
+    cuts: Cuts,
+    payloads: Payloads,
 }
 
 /// The same payloads come, however the streams of this trace are cut.
@@ -64,11 +48,10 @@ fn payloads_of(
     trace: &str,
     cut: Cut,
 ) -> Result<Vec<u8>, Fault> {
+    let is_stream = kind.relays == TransportType::Tcp;
     let pieces = Pieces {
-        cut,
-        draws: Draws::new(seed),
-        is_stream: kind.relays == TransportType::Tcp,
-        payloads: Vec::new(alloc),
+        cuts: Cuts::new(cut, seed),
+        payloads: Payloads::new(alloc, is_stream),
     };
     let head = head_of(alloc, kind, seed)?;
     let mut client = new_client(alloc, head)?;
@@ -87,14 +70,7 @@ fn payloads_through<C: TurnClientApi>(
         let call = call_of(alloc, line.as_bytes())?;
         pieces.call(alloc, client, &call)?;
     }
-    Ok(pieces.payloads)
-}
-
-/// The drawn length of the next piece of so many bytes.
-pub fn drawn_cut(draws: &mut Draws, len: usize) -> usize
-    ensures { result ≤ len }
-{
-    len.min((draws.below(24) as usize).saturating_add(1))
+    Ok(pieces.payloads.bytes)
 }
 
 /// Makes a call whose reply is of no interest.
@@ -133,7 +109,7 @@ impl Pieces {
     {
         let mut rest = packet.payload.as_bytes();
         for _ in 0..MANY {
-            let (piece, after) = rest.split_at(self.next_cut(rest.len()));
+            let (piece, after) = rest.split_at(self.cuts.next(rest.len()));
             let piece = Transmit::new(piece, packet.transport, packet.from, packet.to);
             self.pass_piece(client, piece, now)?;
             if after.is_empty() {
@@ -142,17 +118,6 @@ impl Pieces {
             rest = after;
         }
         Ok(())
-    }
-
-    /// The length of the next piece of so many bytes.
-    fn next_cut(&mut self, len: usize) -> usize
-        ensures { result ≤ len }
-    {
-        match self.cut {
-            Cut::Whole => len,
-            Cut::Bytes => len.min(1),
-            Cut::Drawn => drawn_cut(&mut self.draws, len),
-        }
     }
 
     /// Passes a piece in, and takes all payloads that the client then holds.
@@ -165,26 +130,13 @@ impl Pieces {
         requires { now ≤ 2 ^ 62 }
     {
         if let TurnRecvRet::PeerData(given) = client.recv(piece, now)? {
-            self.note(given.peer, given.data())?;
+            self.payloads.note(given.peer, given.data())?;
         }
         for _ in 0..MANY {
             match client.poll_recv(now)? {
-                Some(given) => self.note(given.peer, given.data())?,
+                Some(given) => self.payloads.note(given.peer, given.data())?,
                 None => break,
             }
-        }
-        Ok(())
-    }
-
-    /// Keeps a payload of this peer.
-    fn note(&mut self, peer: SocketAddr, payload: &[u8]) -> Result<(), Fault> {
-        if !self.is_stream {
-            self.payloads
-                .extend_from_slice(&payload.len().to_be_bytes())?;
-        }
-        let number = number_of(peer);
-        for byte in payload {
-            self.payloads.extend_from_slice(&[number, *byte])?;
         }
         Ok(())
     }

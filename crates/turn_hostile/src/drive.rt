@@ -7,7 +7,6 @@ use crate::looks::{first_expiry, is_idle};
 use crate::numbers::are_distinct;
 use crate::outcome::{Outcome, learn};
 use crate::session::Session;
-use crate::words::recv_words;
 use std::alloc::Global;
 use std::net::SocketAddr;
 use turn_client_api::{TurnClientApi, TurnEvent};
@@ -19,6 +18,7 @@ use turn_hostile_net::network::Network;
 use turn_hostile_net::packet::Packet;
 use turn_hostile_net::request::{Purpose, request_in};
 use turn_hostile_net::strays::are_of;
+use turn_hostile_net::words::recv_words;
 use turn_hostile_net::world::{Kind, MS, SECOND, data_end, server};
 use turn_types::TransportType;
 

@@ -5,15 +5,15 @@
 
 ghost use Rattle.std.specs.Prelude.{◌≤◌};
 
-use crate::cuts::drawn_cut;
 use crate::session::{call_of, head_line, head_of, made};
-use crate::words::{permissions_words, recv_words};
+use crate::words::permissions_words;
 use std::alloc::Global;
 use std::slice;
 use turn_client_api::{Call, TurnClientApi, TurnPollRet};
 use turn_client_calls::Reply;
-use turn_hostile_net::draws::Draws;
+use turn_hostile_net::cuts::{Cut, Cuts};
 use turn_hostile_net::fault::Fault;
+use turn_hostile_net::words::recv_words;
 use turn_hostile_net::world::Kind;
 use turn_line_client::client::new_client;
 use turn_lines::print::answers_text;
@@ -32,7 +32,7 @@ struct Lines {
     kind: Kind,
     text: String,
     /// Where streams are cut, if they are.
-    cuts: Option<Draws>,
+    cuts: Option<Cuts>,
 }
 
 /// The lines of the calls of a trace, made on a new client of this kind.
@@ -50,7 +50,7 @@ pub fn run_text(alloc: Global, kind: Kind, seed: u64, trace: &str) -> Result<Str
 ///
 /// `Wrong` if a line is no call, and `OutOfMemory` if memory allocation fails.
 pub fn cut_text(alloc: Global, kind: Kind, seed: u64, trace: &str) -> Result<String, Fault> {
-    text_with(alloc, kind, seed, trace, Some(Draws::new(seed)))
+    text_with(alloc, kind, seed, trace, Some(Cuts::new(Cut::Drawn, seed)))
 }
 
 fn text_with(
@@ -58,7 +58,7 @@ fn text_with(
     kind: Kind,
     seed: u64,
     trace: &str,
-    cuts: Option<Draws>,
+    cuts: Option<Cuts>,
 ) -> Result<String, Fault> {
     let mut lines = Lines {
         alloc,
@@ -195,7 +195,7 @@ impl Lines {
         ensures { result ≤ len }
     {
         match &mut self.cuts {
-            Some(draws) => drawn_cut(draws, len),
+            Some(cuts) => cuts.next(len),
             None => len,
         }
     }

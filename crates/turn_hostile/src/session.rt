@@ -6,7 +6,6 @@ ghost use Rattle.turn_client_calls.specs.Run.{IsCallable};
 
 use crate::numbers::number_in;
 use crate::outcome::{Outcome, outcome_of};
-use crate::words::head_words;
 use std::alloc::Global;
 use std::slice;
 use turn_auth::credentials::TurnCredentials;
@@ -15,6 +14,7 @@ use turn_auth::integrity::IntegrityAlgorithm;
 use turn_client_api::{Call, TurnClientApi};
 use turn_client_calls::{Reply, reply_to};
 use turn_hostile_net::fault::Fault;
+use turn_hostile_net::head::{CREDENTIALS, allocation_of, head_words, seed_bytes};
 use turn_hostile_net::world::{Kind, local, server};
 use turn_line_client::run::replayed_text;
 use turn_lines::call::parse_call;
@@ -137,28 +137,6 @@ fn calls_of(alloc: Global, trace: &str) -> Result<Vec<Call>, Fault>
     Ok(calls)
 }
 
-/// The user name of a client, and its password.
-const CREDENTIALS: (&[u8], &[u8]) = (b"user", b"pass");
-
-/// The seed of the client's transaction IDs.
-fn seed_bytes(seed: u64) -> [u8; 32] {
-    let [a, b, c, d, e, f, g, h] = seed.to_le_bytes();
-    [
-        a, b, c, d, e, f, g, h, 0, 0, 0, 0, 0, 0, 0, 0, 0, 0, 0, 0, 0, 0, 0, 0, 0, 0, 0, 0, 0, 0,
-        0, 0,
-    ]
-}
-
-/// The transport over which the server relays for a client of this kind.
-fn allocation_of(kind: Kind) -> TransportType
-    ensures { kind.transport ≡ TransportType.Udp → result ≡ TransportType.Udp }
-{
-    match kind.transport {
-        TransportType::Udp => TransportType::Udp,
-        TransportType::Tcp => kind.relays,
-    }
-}
-
 /// The least seed of a run whose requests are timed from their first copies. No run that is judged has it.
 const FIRST_TIMED_FROM_SEND: u64 = 1_000;
 
@@ -178,8 +156,7 @@ pub fn head_line(alloc: Global, kind: Kind, seed: u64) -> Result<String, Fault> 
     } else {
         ""
     };
-    let (allocation, seed) = (allocation_of(kind), seed_bytes(seed));
-    Ok(head_words(alloc, kind, allocation, CREDENTIALS, &seed, timing)?)
+    Ok(head_words(alloc, kind, seed, timing)?)
 }
 
 /// A client of this kind, and its server.

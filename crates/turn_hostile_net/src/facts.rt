@@ -80,6 +80,16 @@ impl Facts {
         self.until(fact).is_some()
     }
 
+    /// Whether a fact was ever granted.
+    pub fn was_granted(&self, fact: Fact) -> bool {
+        for grant in self.grants.iter() {
+            if grant.fact == fact {
+                return true;
+            }
+        }
+        false
+    }
+
     /// Whether data of this peer may be received.
     pub fn may_receive(&self, peer: SocketAddr) -> bool {
         self.has(Fact::Permitted(peer.ip()))

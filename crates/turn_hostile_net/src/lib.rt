@@ -11,11 +11,13 @@
 //! [`Network`](network::Network) and [`Model`](model::Model).
 #![tactic(auto)]
 
+pub mod cuts;
 pub mod draws;
 pub mod events;
 pub mod facts;
 pub mod fault;
 pub mod forge;
+pub mod head;
 pub mod marks;
 pub mod message;
 pub mod model;
@@ -26,4 +28,5 @@ pub mod packet;
 pub mod request;
 pub mod response;
 pub mod strays;
+pub mod words;
 pub mod world;

@@ -21,11 +21,16 @@ const KEY: &[u8; 16] = &[
     0x84, 0x93, 0xfb, 0xc5, 0x3b, 0xa5, 0x82, 0xfb, 0x4c, 0x04, 0x4c, 0x45, 0x6b, 0xdc, 0x40, 0xeb,
 ];
 
+/// The type of XOR-MAPPED-ADDRESS (RFC 8489, section 18.3.1).
+const XOR_MAPPED_ADDRESS: AttributeType = AttributeType { value: 0x0020 };
+
 /// An attribute of a message.
 #[derive(Clone, Copy)]
 pub enum Part<'a> {
     /// LIFETIME, in seconds.
     Lifetime(u32),
+    /// XOR-MAPPED-ADDRESS, 198.51.100.1 with this port (RFC 8489, section 14.2).
+    Mapped(u16),
     /// XOR-RELAYED-ADDRESS.
     Relayed(SocketAddr),
     /// XOR-PEER-ADDRESS.
@@ -110,6 +115,10 @@ fn add_all(out: &mut MessageWriteVec, parts: &[Part<'_>]) -> Result<(), Fault> {
 fn add(out: &mut MessageWriteVec, part: Part<'_>) -> Result<(), Fault> {
     let added = match part {
         Part::Lifetime(seconds) => out.add_attribute(&Lifetime::new(seconds)),
+        Part::Mapped(port) => out.add_attribute(&RawAttribute {
+            attribute_type: XOR_MAPPED_ADDRESS,
+            value: &mapped_value(port),
+        }),
         Part::Relayed(address) => out.add_attribute(&XorRelayedAddress::new(address)),
         Part::Peer(address) => out.add_attribute(&XorPeerAddress::new(address)),
         Part::Connection(id) => out.add_attribute(&ConnectionId::new(id)),
@@ -121,6 +130,12 @@ fn add(out: &mut MessageWriteVec, part: Part<'_>) -> Result<(), Fault> {
         Part::Nonce(number) => out.add_attribute(&Nonce::new(&number.to_be_bytes())),
     };
     Ok(added?)
+}
+
+/// The value of XOR-MAPPED-ADDRESS for 198.51.100.1 with this port: port and address are XORed with the magic cookie.
+fn mapped_value(port: u16) -> [u8; 8] {
+    let [high, low] = (port ^ 0x2112).to_be_bytes();
+    [0, 1, high, low, 198 ^ 0x21, 51 ^ 0x12, 100 ^ 0xa4, 1 ^ 0x42]
 }
 
 fn add_integrity(alloc: Global, out: &mut MessageWriteVec, key: &[u8]) -> Result<(), Fault> {

@@ -124,7 +124,7 @@ impl Model {
             return Ok(false);
         }
         self.answered.push(id)?;
-        if !matches!(answer.effect, Effect::Refused | Effect::ChannelRefused(..)) {
+        if is_grant(answer.effect) {
             self.grants = self.grants.saturating_add(1);
         }
         self.apply(kind, answer.effect, now)?;
@@ -133,7 +133,7 @@ impl Model {
 
     fn apply(&mut self, kind: Kind, effect: Effect, now: u64) -> Result<(), Fault> {
         match effect {
-            Effect::Refused | Effect::Challenged(..) => Ok(()),
+            Effect::Refused | Effect::Denied(_) | Effect::Challenged(..) => Ok(()),
             Effect::Allocated(seconds) => {
                 let until = lasting(now, seconds);
                 self.allocated = first_end(self.allocated, until);
@@ -231,6 +231,14 @@ fn first_events(alloc: Global, kind: Kind) -> Result<Events, Fault> {
         events.allow(TurnEvent::AllocationCreateFailed(family))?;
     }
     Ok(events)
+}
+
+/// Whether a response with this effect is a success.
+fn is_grant(effect: Effect) -> bool {
+    !matches!(
+        effect,
+        Effect::Refused | Effect::Denied(_) | Effect::ChannelRefused(..)
+    )
 }
 
 fn is_listed(ids: &[[u8; 12]], id: [u8; 12]) -> bool {

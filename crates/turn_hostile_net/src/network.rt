@@ -4,7 +4,7 @@ use crate::draws::Draws;
 use crate::facts::Facts;
 use crate::fault::Fault;
 use crate::forge::{challenge_of, forgery_of, grant_of, refusal_of};
-use crate::packet::{Packet, Truth, Wire};
+use crate::packet::{Effect, Packet, Truth, Wire};
 use crate::request::{Purpose, Request};
 use crate::response::{Response, packet_of, signed};
 use crate::strays::stray_of;
@@ -67,23 +67,70 @@ impl Network {
         request: Request,
         now: u64,
     ) -> Result<(), Fault> {
-        let hostility = hostility_to(self.hostility, request.purpose);
-        let is_stream = request.end != local();
-        if self.draws.percent(hostility / 2) {
-            self.forge(alloc, kind, request, now)?;
-            if is_stream {
-                // What follows on this stream would be taken for data of the peer.
-                return Ok(());
-            }
+        if self.forges_before(alloc, kind, request, now)? {
+            return Ok(());
         }
+        let hostility = hostility_to(self.hostility, request.purpose);
         if !request.is_signed || self.draws.percent(hostility / 8) {
             let response = challenge_of(&mut self.draws, request);
             return self.post(alloc, kind, response, now);
         }
         let response = answer_of(&mut self.draws, kind, request, hostility);
-        if is_stream {
+        self.carry_signed(alloc, kind, request, response, now)
+    }
+
+    /// A server answers a request by this response, as far as the network lets it.
+    ///
+    /// # Errors
+    ///
+    /// If memory allocation fails.
+    pub fn answer_by(
+        &mut self,
+        alloc: Global,
+        kind: Kind,
+        request: Request,
+        response: Response,
+        now: u64,
+    ) -> Result<(), Fault> {
+        if self.forges_before(alloc, kind, request, now)? {
+            return Ok(());
+        }
+        match response.effect {
+            Effect::Challenged(..) => self.post(alloc, kind, response, now),
+            _ => self.carry_signed(alloc, kind, request, response, now),
+        }
+    }
+
+    /// Somebody may answer before the server does. Returns whether the server is not to answer then: what follows on the
+    /// stream of a data connection would be taken for data of the peer.
+    fn forges_before(
+        &mut self,
+        alloc: Global,
+        kind: Kind,
+        request: Request,
+        now: u64,
+    ) -> Result<bool, Fault> {
+        let hostility = hostility_to(self.hostility, request.purpose);
+        if !self.draws.percent(hostility / 2) {
+            return Ok(false);
+        }
+        self.forge(alloc, kind, request, now)?;
+        Ok(request.end != local())
+    }
+
+    /// Takes a signed response of the server along. Somebody may answer after it.
+    fn carry_signed(
+        &mut self,
+        alloc: Global,
+        kind: Kind,
+        request: Request,
+        response: Response,
+        now: u64,
+    ) -> Result<(), Fault> {
+        if request.end != local() {
             return self.wire.send(packet_of(alloc, kind, response, now)?);
         }
+        let hostility = hostility_to(self.hostility, request.purpose);
         self.carry(alloc, kind, response, hostility, now)?;
         if self.draws.percent(hostility) {
             self.forge(alloc, kind, request, now)?;

@@ -9,6 +9,8 @@ use std::net::{IpAddr, SocketAddr};
 pub enum Effect {
     /// It grants nothing.
     Refused,
+    /// It grants nothing, whatever is requested, and has this error code.
+    Denied(u16),
     /// It grants nothing, and has this error code, a realm and this nonce: the request is to be made again.
     Challenged(u16, u32),
     /// The relayed addresses are granted for so many seconds.

@@ -90,6 +90,7 @@ fn bytes_of(alloc: Global, kind: Kind, response: Response) -> Result<Vec<u8>, Fa
             let code = Part::Error(code_of(response.method));
             message(alloc, title, &[code], signer, tail)
         }
+        Effect::Denied(code) => message(alloc, title, &[Part::Error(code)], signer, tail),
         Effect::Challenged(code, nonce) => {
             let parts = [Part::Error(code), Part::Realm, Part::Nonce(nonce)];
             message(alloc, title, &parts, signer, tail)
@@ -127,9 +128,8 @@ fn allocation(
 
 fn title_of(response: Response) -> Title {
     let class = match response.effect {
-        Effect::Refused | Effect::ChannelRefused(..) | Effect::Challenged(..) => {
-            MessageClass::Error
-        }
+        Effect::Refused | Effect::Denied(_) | Effect::ChannelRefused(..) | Effect::Challenged(..) =>
+            MessageClass::Error,
         _ => MessageClass::Success,
     };
     let id = response.id;
