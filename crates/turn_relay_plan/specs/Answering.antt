@@ -1,5 +1,5 @@
 -- Answers of the caller to its tasks.
-use Rattle.std.specs.Prelude.{◌≡◌, ◌⊎◌, ℕ, ◌==◌, if◌then◌else◌, Bool, true, false, Option, Some, None, Result, Ok, Err}
+use Rattle.std.specs.Prelude.{◌≡◌, ◌⊎◌, ℕ, ◌==◌, if◌then◌else◌, Bool, Option, Some, None, Result, Ok, Err}
 use Rattle.std.specs.declared.net.socket_addr.SocketAddr.{SocketAddr}
 use Rattle.turn_session_book.specs.declared.tags.Tag.{Tag}
 use Rattle.turn_relay_tries.specs.Addresses.{addresses_left, next_address}
@@ -81,6 +81,13 @@ resolved_name number s = by (work_of number s.tasks)
 
 abbrev pub after_task : ℕ → PlanState → PlanState
 after_task number s = record s { tasks = after_end number s.tasks }
+
+abbrev pub attempt_of : ℕ → PlanState → Option Attempt
+attempt_of number s = by (work_of number s.tasks)
+  where
+    by : Option Work → Option Attempt
+    by (Some (Socket attempt)) = Some attempt
+    by _ = None
 
 abbrev pub socket_opened : ℕ → PlanState → Result Attempt TaskError × PlanState
 socket_opened number s = by (work_of number s.tasks)

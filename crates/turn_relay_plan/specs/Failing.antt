@@ -5,7 +5,6 @@ use Rattle.turn_relay_tries.specs.Attempts.{has_failed, no_attempts}
 use Rattle.turn_relay_tries.specs.Attempts as Attempting
 use Rattle.turn_relay_tries.specs.Failures.{after_leaving}
 use Rattle.turn_relay_tries.specs.Tasks.{withdrawn}
-use Rattle.turn_relay_tries.specs.declared.attempts.Attempts.{Attempts}
 use Rattle.turn_relay_tries.specs.declared.causes.Cause.{Cause}
 use Rattle.turn_relay_course.specs.Course as Courses
 use Rattle.turn_relay_plan.specs.PlanState.{PlanState}

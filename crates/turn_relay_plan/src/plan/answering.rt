@@ -1,8 +1,8 @@
 //! Answers of the caller to its tasks.
 
 ghost use Rattle.std.specs.Prelude.{◌≡◌, Ok};
-ghost use Rattle.turn_relay_plan.specs.Answering.{Answers, IsDone, after_address, after_credentials, credentials_given, failed_by, failed_socket, failed_task};
-ghost use Rattle.turn_relay_plan.specs.Answering.{found_address, resolved_by, resolved_name, socket_opened};
+ghost use Rattle.turn_relay_plan.specs.Answering.{Answers, IsDone, after_address, after_credentials, attempt_of, credentials_given, failed_by, failed_socket};
+ghost use Rattle.turn_relay_plan.specs.Answering.{failed_task, found_address, resolved_by, resolved_name, socket_opened};
 
 use crate::error::TaskError;
 use crate::plan::Plan;
@@ -55,6 +55,16 @@ impl Plan {
         match self.tasks.work_of(number) {
             Some(Work::Resolve(_)) => self.begin_attempts(number),
             _ => Err(TaskError::NoTask),
+        }
+    }
+
+    /// The attempt for which the caller is to open a socket by this task, if it was given the task and has not answered it.
+    pub fn attempt_of(&self, number: u64) -> Option<Attempt>
+        ensures { result ≡ attempt_of number self.now }
+    {
+        match self.tasks.work_of(number) {
+            Some(Work::Socket(attempt)) => Some(attempt),
+            _ => None,
         }
     }
 
