@@ -6,5 +6,5 @@ the runs that one seed printed: over TCP the second has the streams of the first
 
 CLAUSES = [
     "granted", "numbers", "bound", "offers", "given", "heard", "delivered", "counted", "challenges", "realm", "cuts", "order",
-    "sent", "sends", "lasts", "calm", "alarm", "ends", "events", "once", "processed", "paced", "tried",
+    "sent", "leaves", "sends", "lasts", "calm", "alarm", "ends", "events", "once", "processed", "paced", "tried",
 ]  # fmt: skip

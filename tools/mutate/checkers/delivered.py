@@ -1,33 +1,12 @@
 """`delivered`: all data of peers is returned, once and in order.
 
 Over UDP the `recv` returns it: that of a Data indication of a peer whose IP address has a permission, and of a ChannelData message
-of an active channel (RFC 8656, sections 11.4 and 12.6). A permission is active for certain as the checker of `order` says, and a
-channel where `send` used its number, and nothing since then can have ended it. Over TCP all that arrived is returned by the
-time at which `poll_recv` returns nothing, which that checker sees.
+of an active channel (RFC 8656, sections 11.4 and 12.6). Which are active for certain is as the checker of `order` says. Over TCP
+all that arrived is returned by the time at which `poll_recv` returns nothing, which that checker sees.
 """
 from . import order, stun
 from .facts import walk
 from .lines import address_in, bytes_in
-
-
-class Used:
-    """The peers of the channels that are active for certain, by their numbers."""
-
-    def __init__(self):
-        self.peers = {}
-
-    def call(self, call):
-        """A call was made, before what arrives by it."""
-        if call.name not in order.KEEPING:
-            self.peers = {}
-        channel = stun.channel_of(bytes_in(call.answer[4])) if call.name == "send" and call.answer[0] == "send" else None
-        if channel is not None:
-            self.peers[channel[0]] = address_in(call.words[2])
-
-    def arrived(self, one):
-        """A response may take channels away."""
-        if one.message is not None and one.message.kind != stun.INDICATION:
-            self.peers = {}
 
 
 def brought(one, ips, peers):
@@ -43,7 +22,7 @@ def brought(one, ips, peers):
 
 
 def lost_datagrams(run):
-    listed, used, last = order.Listed(), Used(), run.last_open()
+    listed, used, last = order.Listed(), order.Used(), run.last_open()
     for call, facts in walk(run):
         step = facts.take(call)
         listed.call(call)
@@ -56,6 +35,7 @@ def lost_datagrams(run):
             listed.arrived(one)
             used.arrived(one)
         listed.emptied()
+        used.emptied()
 
 
 def faults(runs):

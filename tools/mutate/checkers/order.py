@@ -4,8 +4,9 @@ It is seen by the payloads. Those of a stream come in the order of their frames,
 indication of a peer whose IP address has a permission when it is processed is delivered by the time at which `poll_recv` returns
 nothing, and so are all bytes of a bound stream of which some are delivered (RFC 6062, section 4.3). It has one where
 `permissions` listed it, and nothing since then can have ended it: a response can, as a 403 to the request that was to prolong it
-(section 9.2), and so can each call that neither looks, sends nor receives. A client that has ended ignores what comes, and a
-stream that the server has closed holds nothing.
+(section 9.2), and so can each call that neither looks, sends nor receives. So is a ChannelData message of a channel whose number
+`send` used, until such a call or response. A client that has ended ignores what comes, and a stream that the server has closed
+holds nothing.
 """
 from . import stun
 from .facts import walk
@@ -39,6 +40,30 @@ class Listed:
         self.is_answered = False
 
 
+class Used:
+    """The peers of the channels that are active for certain when what arrives now is processed, by their numbers."""
+
+    def __init__(self):
+        self.peers, self.is_answered = {}, False
+
+    def call(self, call):
+        """A call was made, before what arrives by it."""
+        if call.name not in KEEPING:
+            self.peers = {}
+        channel = stun.channel_of(bytes_in(call.answer[4])) if call.name == "send" and call.answer[0] == "send" else None
+        if channel is not None and not self.is_answered:
+            self.peers[channel[0]] = address_in(call.words[2])
+
+    def arrived(self, one):
+        """A response may take channels away when it is processed: until all is, those that are used may be of before."""
+        if one.message is not None and one.message.kind != stun.INDICATION:
+            self.peers, self.is_answered = {}, True
+
+    def emptied(self):
+        """All that has arrived is processed."""
+        self.is_answered = False
+
+
 def is_read(indication):
     """Whether it has neither an attribute that has to be known and is not, nor a peer that cannot be read."""
     return not stun.has_unknown(indication) and len(indication.addresses(stun.PEER)) == len(indication.values(stun.PEER))
@@ -59,11 +84,13 @@ class Waiting:
             self.bytes.pop(address_in(call.words[3]), None)
             self.begun.discard(address_in(call.words[3]))
 
-    def take(self, one, held, ips):
+    def take(self, one, held, ips, peers):
         if one.mode == "bound":
             self.bytes[one.local] = self.bytes.get(one.local, b"") + one.raw
         elif found := carried(one, held):
-            self.frames.append((found, one.message is not None and found[0][0] in ips and is_read(one.message)))
+            channel = stun.channel_of(one.raw)
+            is_certain = peers.get(channel[0]) == found[0] if channel else found[0][0] in ips and is_read(one.message)
+            self.frames.append((found, is_certain))
 
     def deliver(self, given, bound):
         """Removes what was delivered, and says what is wrong with it."""
@@ -86,20 +113,23 @@ class Waiting:
 
 
 def faults_of(run):
-    waiting, listed, last = Waiting(), Listed(), run.last_open()
+    waiting, listed, used, last = Waiting(), Listed(), Used(), run.last_open()
     for call, facts in walk(run):
         step = facts.take(call)
         listed.call(call)
+        used.call(call)
         waiting.call(call, run.local)
         for one in step.inputs:
             listed.arrived(one)
-            waiting.take(one, step.before, listed.ips)
+            used.arrived(one)
+            waiting.take(one, step.before, listed.ips, used.peers)
         if call.answer[0] == "data":
             what = waiting.deliver((address_in(call.answer[2]), bytes_in(call.answer[3])), facts.bound)
             if what:
                 yield call, what
         elif call.name == "poll_recv":
             listed.emptied()
+            used.emptied()
             if waiting.end() and call.number < last:
                 yield call, "what had arrived of a permitted peer was left out"
 

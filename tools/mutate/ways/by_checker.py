@@ -1,8 +1,9 @@
 """Shows that the checker of a clause sees the wrong machines that are meant for it, in the lines of drawn runs.
 
 A wrong machine is an edit of a definition in specs/, which is there for the reader and is not proved, and the same of the code.
-turn_hostile is built with it, unproved, by `rt try`. The machine as it stands has to pass all checkers, over the program that
-`rt ci` left if it is there; a wrong one has to be seen, and not to be by a checker that accepts all.
+turn_hostile is built with it, unproved, by `rt try`; of sessions it is turn_session_live, whose runs are drawn by
+tools/mutate/drawn. The machine as it stands has to pass all checkers, over the programs that `rt ci` left if they are there; a
+wrong one has to be seen, and not to be by a checker that accepts all.
 """
 import concurrent.futures
 import contextlib
@@ -13,13 +14,18 @@ import tempfile
 from typing import Any, Dict, Generator, Iterable, Iterator, List, Optional, Tuple
 
 import checkers
+import checkers.session
 from checkers.lines import runs_in
+from ways import session_runs
 from ways.edit import TOP, BadEdit, Edit, put
 from ways.rooms import files_here
 
 MACHINES = "tools/mutate/machines"
 RIGHT = "right"
+# What the clauses of sessions begin with.
+SESSION = "session."
 PROGRAM = TOP / "crates/turn_hostile/out/turn_hostile"
+SESSIONS = TOP / session_runs.CRATE / "out/turn_session_live"
 # A run that is made unproved may take long where other work is under way.
 SECONDS = "600"
 # The runs of this seed and greater ones have requests that are timed from their first copies.
@@ -31,15 +37,19 @@ Texts = Generator[Text, None, None]
 
 
 def clauses() -> List[str]:
-    return list(checkers.CLAUSES)
+    return [*checkers.CLAUSES, *[f"{SESSION}{it}" for it in checkers.session.CLAUSES]]
 
 
 class Right(Edit):
-    """The machine as it stands, which changes nothing."""
+    """The machine as it stands, of clients or of sessions, which changes nothing."""
 
-    def __init__(self) -> None:
-        self.path = self.home = self.promise = self.seen = self.unseen = self.fault = ""
-        self.label, self.pairs = RIGHT, []
+    def __init__(self, of: str) -> None:
+        self.path = self.home = self.seen = self.unseen = self.fault = ""
+        self.promise, self.label, self.pairs = of, f"{RIGHT} {of.rstrip('.')}".rstrip(), []
+
+
+def is_of_sessions(machine: Edit) -> bool:
+    return machine.promise.startswith(SESSION)
 
 
 def machines() -> List[Edit]:
@@ -50,7 +60,7 @@ def machines() -> List[Edit]:
         kinds = {file.split("/")[2] for file, _, _ in edit.pairs}
         if not edit.fault and kinds != {"specs", "src"}:
             edit.fault = "it has to edit a definition in specs/ and code in src/"
-        elif not edit.fault and edit.promise not in checkers.CLAUSES:
+        elif not edit.fault and edit.promise not in clauses():
             edit.fault = f"its line 'promise:' names no clause with a checker: {edit.promise}"
         found.append(edit)
     return found
@@ -131,12 +141,13 @@ def judge(machine: Edit, modules: Dict[str, Any], texts: Iterable[Text]) -> Tupl
     """Whether these runs are as they have to be, what to print, and the last text that was read: the right machine has no fault,
     and a wrong one is seen by the checker of its clause. No text is read after a fault."""
     is_right = isinstance(machine, Right)
+    judged = [it for it in modules if it.startswith(SESSION) == is_of_sessions(machine)]
     count, last = 0, None
     for seed, text in texts:
         count, last, runs = count + 1, (seed, text), runs_in(text)
         if not runs:
             raise BadEdit(f"run {seed} has no lines")
-        for clause in list(modules) if is_right else [machine.promise]:
+        for clause in judged if is_right else [machine.promise]:
             fault = first_fault(modules[clause], seed, runs)
             if fault and is_right:
                 return False, f"NOT RIGHT for the checker of {clause}: {fault}", last
@@ -150,20 +161,28 @@ def judge(machine: Edit, modules: Dict[str, Any], texts: Iterable[Text]) -> Tupl
 def seeds_for(machine: Edit, runs: int) -> List[int]:
     """The seeds of so many runs, of such as can show what the machine does wrong: of both kinds for the right machine."""
     timed = list(range(FIRST_TIMED_FROM_SEND, FIRST_TIMED_FROM_SEND + runs))
+    if is_of_sessions(machine):
+        return list(range(runs))
     if isinstance(machine, Right):
         return [*range(runs), *timed]
     return timed if machine.promise == "paced" else list(range(runs))
 
 
 def tried(machine: Edit, modules: Dict[str, Any], runs: int) -> Tuple[bool, str, Optional[Text]]:
-    if isinstance(machine, Right) and PROGRAM.exists():
-        return judge(machine, modules, printed_by(PROGRAM, seeds_for(machine, runs)))
+    seeds = seeds_for(machine, runs)
+    if isinstance(machine, Right) and is_of_sessions(machine) and SESSIONS.exists():
+        return judge(machine, modules, session_runs.texts(SESSIONS, seeds, True))
+    if isinstance(machine, Right) and not is_of_sessions(machine) and PROGRAM.exists():
+        return judge(machine, modules, printed_by(PROGRAM, seeds))
     with tempfile.TemporaryDirectory(prefix="machine-") as folder:
         room = pathlib.Path(folder)
         copied(room)
         if not isinstance(machine, Right):
             put(room, machine.texts(room)[1])
-        with contextlib.closing(printed(room, seeds_for(machine, runs))) as texts:
+        if is_of_sessions(machine):
+            with session_runs.built(room) as program:
+                return judge(machine, modules, session_runs.texts(program, seeds, isinstance(machine, Right)))
+        with contextlib.closing(printed(room, seeds)) as texts:
             return judge(machine, modules, texts)
 
 
@@ -181,9 +200,9 @@ def verdict(machine: Edit, modules: Dict[str, Any], runs: int) -> Tuple[bool, st
 
 def try_all(edits: List[Edit], right: bool, jobs: int, runs: int, without: List[str]) -> Iterator[Tuple[Edit, bool, str]]:
     """Tries the machines, each on two processors and in up to 3 GB of memory, and yields what came of each as it ends."""
-    modules: Dict[str, Any] = {it: importlib.import_module(f"checkers.{it}") for it in checkers.CLAUSES}
+    modules: Dict[str, Any] = {it: importlib.import_module(f"checkers.{it}") for it in clauses()}
     modules.update(dict.fromkeys(without, Accepts))
     with concurrent.futures.ThreadPoolExecutor(jobs) as pool:
-        begun = {pool.submit(verdict, it, modules, runs): it for it in [Right()] * right + edits}
+        begun = {pool.submit(verdict, it, modules, runs): it for it in [Right(""), Right(SESSION)] * right + edits}
         for it in concurrent.futures.as_completed(begun):
             yield begun[it], *it.result()

@@ -9,9 +9,10 @@ from ways.rooms import Ran, run
 
 # A test that is not proved may take minutes where other work is under way.
 SECONDS = "900"
-# The transcripts stand among the crates with tests, as one above the programs, which answer them.
+# The transcripts stand among the crates with tests, as one above the programs that answer them; so do those of sessions.
 TRANSCRIPTS = "transcripts"
-PROGRAMS = ["turn_replay", "turn_live"]
+SESSIONS = "transcripts/session"
+ANSWERED_BY = {TRANSCRIPTS: ["turn_replay", "turn_live"], SESSIONS: ["turn_session_live"]}
 DOES_NOT_COMPILE = Result(False, False, "it does not compile")
 
 
@@ -34,6 +35,21 @@ def is_program(name: str) -> bool:
     return (TOP / "crates" / name / "src/main.rt").is_file() and (TOP / "crates" / name / "stdin").is_file()
 
 
+def kind_of(test: str) -> str:
+    """The folder of a transcript whose programs answer it, or nothing if the test is none."""
+    if test.startswith(f"{SESSIONS}/"):
+        return SESSIONS
+    return test if test == SESSIONS else TRANSCRIPTS if test.split("/")[0] == TRANSCRIPTS else ""
+
+
+def files_of(test: str) -> List[str]:
+    """The transcript, or all of a kind."""
+    if test not in ANSWERED_BY:
+        return [test]
+    every = [str(it.relative_to(TOP)) for it in sorted((TOP / TRANSCRIPTS).glob("*/*.txt")) if it.parent.name != "states"]
+    return [it for it in every if kind_of(it) == test]
+
+
 def failed(names: List[str]) -> Result:
     return Result(False, True, names[0]) if names else PASSED
 
@@ -44,9 +60,10 @@ class Rattle:
     def __init__(self) -> None:
         self.below = graph()
         self.tested = [it for it in self.below if has_tests(it) or is_program(it)]
-        if (TOP / TRANSCRIPTS).is_dir():
-            self.below[TRANSCRIPTS] = PROGRAMS
-            self.tested.append(TRANSCRIPTS)
+        for folder, programs in ANSWERED_BY.items():
+            if (TOP / folder).is_dir():
+                self.below[folder] = programs
+                self.tested.append(folder)
 
     def closure(self, name: str) -> "set[str]":
         """All that the crate stands on, and itself."""
@@ -69,29 +86,29 @@ class Rattle:
         found = self.above(pathlib.PurePath(edit.home).name)
         if not edit.seen:
             return found
-        is_transcript = edit.seen.startswith(f"{TRANSCRIPTS}/") and (TOP / edit.seen).is_file() and TRANSCRIPTS in found
+        is_transcript = kind_of(edit.seen) in found and (TOP / edit.seen).is_file()
         if is_transcript or edit.seen in found:
             return [edit.seen]
         raise BadEdit(f"its file names {edit.seen}, which is no transcript and has no tests above its crate")
 
     def together(self, tests: List[str]) -> List[List[str]]:
         """All transcripts run at once, since that compiles the programs once, and each crate by itself."""
-        transcripts = sorted(it for it in tests if it.startswith(TRANSCRIPTS))
-        return [[it] for it in tests if it not in transcripts] + [transcripts] * bool(transcripts)
+        rows = [sorted(it for it in tests if kind_of(it) == kind) for kind in ANSWERED_BY]
+        return [[it] for it in tests if not kind_of(it)] + [row for row in rows if row]
 
     def run(self, room: pathlib.Path, test: str, edit: Optional[Edit]) -> Result:
-        if test.startswith(TRANSCRIPTS):
+        if kind_of(test):
             found = failed_transcripts(room, [test])
             return DOES_NOT_COMPILE if found is None else failed(found)
         return example(room, test) if is_program(test) else tests_of(room, test)
 
     def run_all(self, room: pathlib.Path, tests: List[str]) -> Dict[str, Result]:
-        if not tests[0].startswith(TRANSCRIPTS):
+        if not kind_of(tests[0]):
             return {it: self.run(room, it, None) for it in tests}
         found = failed_transcripts(room, tests)
         if found is None:
             return dict.fromkeys(tests, DOES_NOT_COMPILE)
-        return {it: failed([it] if it in found or TRANSCRIPTS in found else []) for it in tests}
+        return {it: failed([it] if it in found or kind_of(it) in found else []) for it in tests}
 
 
 def ran(room: pathlib.Path, words: List[str], given: bytes = b"") -> Ran:
@@ -101,14 +118,14 @@ def ran(room: pathlib.Path, words: List[str], given: bytes = b"") -> Ran:
     return found
 
 
-def failed_transcripts(room: pathlib.Path, names: List[str]) -> Optional[List[str]]:
-    """Which of these transcripts fail, or of all; None where a program does not compile."""
-    files = [it for it in names if it != TRANSCRIPTS]
-    found = ran(room, ["tools/check/transcripts", "--try", *files])
+def failed_transcripts(room: pathlib.Path, tests: List[str]) -> Optional[List[str]]:
+    """Which of these transcripts fail, which are of one kind; its name where that is not told, and None where a program does not
+    compile."""
+    found = ran(room, ["tools/check/transcripts", "--try", *[file for it in tests for file in files_of(it)]])
     if not re.search(r"^cases=\d", found.said, re.M):
         return None
     listed = re.findall(r"^(transcripts/\S+): (?!.*output=expected)", found.said, re.M)
-    return listed or [TRANSCRIPTS] * (found.status != 0)
+    return listed or [kind_of(tests[0])] * (found.status != 0)
 
 
 def tests_of(room: pathlib.Path, name: str) -> Result:
