@@ -3,7 +3,7 @@
 //!
 //! ```text
 //!  a socket is opened       -- add ------> Trying    several servers, or addresses of one, are tried at a time
-//!  the first is heard       -- choose ---> InUse     that session is used, and the others that try leave
+//!  the first has a response -- choose ---> InUse     that session is used, and the others that try leave
 //!  the relay is done with it -- leave ----> Leaving  its allocation is deleted, and then its socket is closed
 //!  what is due              -- next -----> LifeStep
 //! ```
