@@ -21,7 +21,7 @@ use Rattle.turn_session_book.specs.declared.replies.ErrorReply.{ErrorReply}
 use Rattle.turn_session_life.specs.declared.life.Phase.{Phase}
 use Rattle.turn_session_life.specs.declared.life.Phase.TheVariants.{Opening, Open, Leaving, Over}
 use Rattle.turn_session_client.specs.Answering.{is_channel_data}
-use Rattle.turn_session_client.specs.Reading.{is_foreign}
+use Rattle.turn_session_client.specs.Reading.{IsReadingFrom, is_foreign}
 use Rattle.turn_session_client.specs.Drain.{DrainsSome}
 use Rattle.turn_session_client.specs.NotedState.{NotedState}
 use Rattle.turn_session_client.specs.Receiving.{Receives, answers_nothing, heard_step, is_taken, reply_for, with_reply}
@@ -117,15 +117,23 @@ unheard from to bytes now s channel =
           (unchanged from to bytes now s.client channel)));
     }
 
+pub unread : (is_servers : Bool) (bytes : List ℕ) (client : State) → is_channel_data bytes ≡ true → IsReadingFrom is_servers bytes client None
+unread true bytes client channel = inl channel
+unread false bytes client channel = refl
+
+unread-at : (from : SocketAddr) (bytes : List ℕ) (client : State) → is_channel_data bytes ≡ true
+    → IsReadingFrom (is_from_server Udp from client) bytes client None
+unread-at from bytes client channel = unread (is_from_server Udp from client) bytes client channel
+
 abbrev at : Phase → NotedState → NotedState
 at phase s = record s { life = record s.life { phase = phase } }
 
 stays-at : (phase : Phase) (from to : SocketAddr) (bytes : List ℕ) (now : ℕ) (s : NotedState) → is_channel_data bytes ≡ true
     → Receives Udp from to bytes now (at phase s) (at phase s)
 stays-at Opening from to bytes now s channel =
-    rw (no-answer to bytes s.client channel) (None, inl channel, unheard from to bytes now (at Opening s) channel)
+    rw (no-answer to bytes s.client channel) (None, unread-at from bytes s.client channel, unheard from to bytes now (at Opening s) channel)
 stays-at Open from to bytes now s channel =
-    rw (no-answer to bytes s.client channel) (None, inl channel, unheard from to bytes now (at Open s) channel)
+    rw (no-answer to bytes s.client channel) (None, unread-at from bytes s.client channel, unheard from to bytes now (at Open s) channel)
 stays-at (Leaving leave) from to bytes now s channel =
     let t = at (Leaving leave) s in sym (ap (λ (c : State). record t { client = c }) (unchanged from to bytes now t.client channel))
 stays-at (Over why) from to bytes now s channel = refl

@@ -75,6 +75,11 @@ IsReading bytes s (Some r) = IsResponseTo bytes s r
 IsReading bytes s None =
     (is_channel_data bytes ≡ true) ⊎ (IsSome (fault_of bytes) ⊎ ((first_purpose bytes s ≡ None) ⊎ IsText bytes None))
 
+-- what others than the server send answers no request
+abbrev pub IsReadingFrom : Bool → List ℕ → State → Option Reading → Type 0
+IsReadingFrom true bytes s reading = IsReading bytes s reading
+IsReadingFrom false bytes s reading = reading ≡ None
+
 -- ---- a response that answers nothing
 
 -- it has another method than the request with its ID (RFC 8489, section 6.3)

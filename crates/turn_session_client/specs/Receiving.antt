@@ -4,7 +4,7 @@ use Rattle.std.specs.declared.net.socket_addr.SocketAddr.{SocketAddr}
 use Rattle.turn_stun.specs.declared.transport.TransportType.{TransportType}
 use Rattle.turn_client_api.specs.Payloads.{Outcome}
 use Rattle.turn_client_api.specs.Payloads as Outcomes
-use Rattle.turn_client_api.specs.Receive.{recv_step}
+use Rattle.turn_client_api.specs.Receive.{is_from_server, recv_step}
 use Rattle.turn_client_api.specs.State.{State}
 use Rattle.turn_client_api.specs.declared.event.TurnEvent.{TurnEvent}
 use Rattle.turn_session_book.specs.BookState.{BookState}
@@ -24,7 +24,7 @@ use Rattle.turn_session_life.specs.declared.responses.Response.{Response}
 use Rattle.turn_session_life.specs.declared.verdict.Blame.{Blame}
 use Rattle.turn_session_client.specs.Drain.{DrainsSome}
 use Rattle.turn_session_client.specs.Ending.{is_open}
-use Rattle.turn_session_client.specs.Reading.{IsReading, hint_in, ignored_in, is_foreign, mapped_after, reply_in, response_to}
+use Rattle.turn_session_client.specs.Reading.{IsReadingFrom, hint_in, ignored_in, is_foreign, mapped_after, reply_in, response_to}
 use Rattle.turn_session_client.specs.NotedState.{NotedState, with_book, with_life}
 use Rattle.turn_session_client.specs.declared.reading.Reading.{Reading}
 
@@ -115,7 +115,7 @@ Receives transport from to bytes now was s = by was.life.phase (answers_nothing 
     by (Over why) _ = s ≡ was
     by (Leaving leave) _ = s ≡ record was { client = (recv_step transport from to bytes now was.client).1 }
     by _ true = s ≡ was
-    by _ false = (reading : Option Reading) × IsReading bytes was.client reading
+    by _ false = (reading : Option Reading) × IsReadingFrom (is_from_server transport from was.client) bytes was.client reading
         × DrainsSome now (heard_step transport from to bytes reading now was) s
 
 -- ---- without memory

@@ -2,9 +2,9 @@
 
 ghost use Rattle.std.specs.Prelude.{◌≡◌, ◌≤◌, ◌^◌, Option, IfOk, OnErr, OnOk};
 ghost use Rattle.turn_client_api.specs.Answers.{HandsBack, RecvEnds, outcome_of};
-ghost use Rattle.turn_client_api.specs.Receive.{recv_step};
+ghost use Rattle.turn_client_api.specs.Receive.{is_from_server, recv_step};
 ghost use Rattle.turn_session_client.specs.Drain.{DrainsSome};
-ghost use Rattle.turn_session_client.specs.Reading.{IsReading};
+ghost use Rattle.turn_session_client.specs.Reading.{IsReadingFrom};
 ghost use Rattle.turn_session_client.specs.declared.reading.Reading.{Reading};
 ghost use Rattle.turn_session_client.specs.Receiving.{Receives, answers_nothing, ended_with, heard_step, noted_response};
 ghost use Rattle.turn_session_client.specs.Receiving.{outcome_in, reply_for, received, with_hints};
@@ -39,6 +39,7 @@ impl<C: TurnClientApi> NotedClient<C> {
     /// If memory allocation fails in the client, which has ended then, and the session with it. If it fails for the notes, `poll`
     /// notes the rest.
     #[inline]
+    #[tactic(auto, using(crate::proofs::ChannelDataLemmas::unread))]
     pub fn recv<T: AsSlice<u8> + Debug + Drop>(
         &mut self,
         transmit: Transmit<T>,
@@ -82,19 +83,39 @@ impl<C: TurnClientApi> NotedClient<C> {
         ensures answer { IfOk result (λ answer. outcome_of answer
             ≡ (recv_step transmit.transport transmit.from transmit.to (T.items transmit.payload) now self.old.client).0) }
         ensures hands_back { IfOk result (HandsBack transmit) }
-        ensures after { OnOk result ((reading : Option Reading) × IsReading (T.items transmit.payload) self.old.client reading
+        ensures after { OnOk result ((reading : Option Reading)
+            × IsReadingFrom (is_from_server transmit.transport transmit.from self.old.client) (T.items transmit.payload) self.old.client reading
             × DrainsSome now (heard_step transmit.transport transmit.from transmit.to (T.items transmit.payload) reading now self.old)
             self.new) }
         ensures no_memory { OnErr result (RecvEnds transmit.to (T.items transmit.payload) now self.old.client self.new.client) }
         ensures ended { OnErr result (self.new ≡ ended_with self.new.client self.old) }
     {
-        let reading = read(transmit.payload.as_slice(), &self.client);
+        let reading = self.read(&transmit);
         let reply = self.reply_for(reading);
         let answer = self.pass_in(transmit, now)?;
         let is_taken = matches!(&answer, TurnRecvRet::Handled);
         self.note_reading(reading, reply, is_taken, now);
         self.drain_if(is_taken, now);
         Ok(answer)
+    }
+
+    /// The response to a request of the client, if the server has sent one. What others send answers no request, whatever it says.
+    fn read<T: AsSlice<u8> + Debug + Drop>(&self, transmit: &Transmit<T>) -> Option<Reading>
+        ensures { IsReadingFrom (is_from_server transmit.now.transport transmit.now.from self.now.client) (T.items transmit.now.payload)
+            self.now.client result }
+    {
+        if self.is_from_server(transmit) {
+            read(transmit.payload.as_slice(), &self.client)
+        } else {
+            None
+        }
+    }
+
+    /// Whether the server has sent it.
+    fn is_from_server<T: AsSlice<u8> + Debug + Drop>(&self, transmit: &Transmit<T>) -> bool
+        ensures { result ≡ is_from_server transmit.now.transport transmit.now.from self.now.client }
+    {
+        transmit.transport == self.client.transport() && transmit.from == self.client.remote_addr()
     }
 
     /// Passes it to the client.

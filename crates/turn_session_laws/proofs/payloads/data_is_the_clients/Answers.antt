@@ -4,7 +4,7 @@ use Rattle.std.proofs.lemmas.Bool.{false≢true}
 use Rattle.turn_stun.specs.declared.transport.TransportType.{TransportType}
 use Rattle.turn_client_api.specs.Calls.{send_to_step}
 use Rattle.turn_client_api.specs.Payloads.{Outcome}
-use Rattle.turn_client_api.specs.Receive.{recv_step}
+use Rattle.turn_client_api.specs.Receive.{is_from_server, recv_step}
 use Rattle.turn_client_api.specs.State.{State}
 use Rattle.turn_session_book.specs.declared.replies.ErrorReply.{ErrorReply}
 use Rattle.turn_session_life.specs.Life.{is_running}
@@ -15,7 +15,7 @@ use Rattle.turn_session_client.specs.Answering.{is_channel_data}
 use Rattle.turn_session_client.specs.Drain.{drained}
 use Rattle.turn_session_client.specs.Ending.{is_over}
 use Rattle.turn_session_client.specs.NotedState.{NotedState}
-use Rattle.turn_session_client.specs.Reading.{IsReading}
+use Rattle.turn_session_client.specs.Reading.{IsReadingFrom}
 use Rattle.turn_session_client.specs.Receiving.{answers_nothing, heard_step, is_taken, outcome_in, received, reply_for}
 use Rattle.turn_session_client.specs.Receiving as Client
 use Rattle.turn_session_client.specs.Sending.{sent_step}
@@ -52,9 +52,11 @@ answers transport from to bytes now s channel running =
 
 -- ---- nothing of it is noted
 
-unread : (bytes : List ℕ) (client : State) (reading : Option Reading) → is_channel_data bytes ≡ true → IsReading bytes client reading → reading ≡ None
-unread bytes client None channel is = refl
-unread bytes client (Some r) channel is = absurd (false≢true (sym is.is_message ∙ channel))
+unread : (is_servers : Bool) (bytes : List ℕ) (client : State) (reading : Option Reading) → is_channel_data bytes ≡ true
+    → IsReadingFrom is_servers bytes client reading → reading ≡ None
+unread false bytes client reading channel is = is
+unread true bytes client None channel is = refl
+unread true bytes client (Some r) channel is = absurd (false≢true (sym is.is_message ∙ channel))
 
 keeps : (reading : Option Reading) (reply : Option ErrorReply) (taken : Bool) (now : ℕ) (s : NotedState) → reading ≡ None → taken ≡ false
     → received reading reply taken now s ≡ s
@@ -64,12 +66,14 @@ abbrev at : Phase → NotedState → NotedState
 at phase s = record s { life = record s.life { phase = phase } }
 
 notes-nothing : (transport : TransportType) (from to : SocketAddr) (bytes : List ℕ) (now : ℕ) (was s : NotedState) (reading : Option Reading)
-    → is_channel_data bytes ≡ true → is_taken (recv_step transport from to bytes now was.client).0 ≡ false → IsReading bytes was.client reading
+    → is_channel_data bytes ≡ true → is_taken (recv_step transport from to bytes now was.client).0 ≡ false
+    → IsReadingFrom (is_from_server transport from was.client) bytes was.client reading
     → drained now s ≡ drained now (heard_step transport from to bytes reading now was)
     → drained now s ≡ drained now (record was { client = (recv_step transport from to bytes now was.client).1 })
 notes-nothing transport from to bytes now was s reading channel ignored is same =
     let step = recv_step transport from to bytes now was.client in let t = record was { client = step.1 } in
-    same ∙ ap (drained now) (keeps reading (reply_for reading t) (is_taken step.0) now t (unread bytes was.client reading channel is) ignored)
+    let none : reading ≡ None = unread (is_from_server transport from was.client) bytes was.client reading channel is in
+    same ∙ ap (drained now) (keeps reading (reply_for reading t) (is_taken step.0) now t none ignored)
 
 receives-at : (transport : TransportType) (from to : SocketAddr) (bytes : List ℕ) (now : ℕ) (was s : NotedState) (phase : Phase) → is_running phase ≡ true
     → is_channel_data bytes ≡ true → is_taken (recv_step transport from to bytes now was.client).0 ≡ false
