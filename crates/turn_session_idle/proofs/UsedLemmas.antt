@@ -52,3 +52,13 @@ pub again-last : (last : Option Key) (at : ℕ) (key : Key) (now : ℕ) (s : Idl
 again-last None at key now s same = cc
 again-last (Some last) at key now s same =
     ap (λ (k : Key). after_use k now s) (same_key-true last key same) ∙ sym (again last key at now s same)
+
+-- ---- a use leaves the time after which a peer is idle
+
+use-keeps : (key : Key) (at : ℕ) (s : IdleState) (idle : Option ℕ) → (after_use key at (with_idle idle s)).idle ≡ idle
+use-keeps key at s None = refl
+use-keeps key at s (Some idle) = refl
+
+pub last_keeps : (last : Option Key) (at : ℕ) (s : IdleState) → (after_last_use last at s).idle ≡ s.idle
+last_keeps None at s = refl
+last_keeps (Some key) at s = use-keeps key at s s.idle

@@ -1,6 +1,6 @@
 //! Idle peers whose last use is noted apart, so that data of the same peer again costs a compare and a store.
 
-ghost use Rattle.std.specs.Prelude.{◌≡◌, true, IfOk, OnErr, Some};
+ghost use Rattle.std.specs.Prelude.{◌≡◌, is_some, true, IfOk, OnErr, Some};
 ghost use Rattle.std.specs.Option.{option_eq};
 ghost use Rattle.turn_session_book.specs.Keys.{same_key};
 ghost use Rattle.turn_session_idle.specs.IdlePeers.{after_decision, after_use, idle_step, looks_now, no_peers};
@@ -45,6 +45,15 @@ impl UsedPeers {
             last: None,
             at: now,
         }
+    }
+
+    /// Whether a peer may be idle. If none may, `used` changes nothing.
+    #[tactic(auto, using(crate::proofs::UsedLemmas::last_keeps))]
+    #[inline(always)]
+    pub fn is_on(&self) -> bool
+        ensures { result ≡ is_some self.now.idle }
+    {
+        self.peers.is_on()
     }
 
     /// The peer of this key is used: it is requested, or data came from this peer or is sent to it. With a channel or a data
