@@ -16,7 +16,7 @@ use Rattle.turn_session.specs.declared.given.Given.{Given}
 use Rattle.turn_session.specs.declared.given.Given.TheVariants as Frame
 use Rattle.turn_session.specs.declared.given.PeerBytes.{PeerBytes}
 use Rattle.turn_session.specs.Framing.{CopyFails, DataFails, FailsAfter, FirstGives, FollowingFails, Follows, FrameFails, FrameGives, GivesNoData}
-use Rattle.turn_session.specs.Framing.{NextFails, PieceGives, TakesFrame, TakesNext, TakingFails, after_held, fed}
+use Rattle.turn_session.specs.Framing.{TakingNextFails, PieceGives, TakesFrame, TakesNext, TakingFails, after_held, fed}
 use Rattle.turn_session.specs.Given.{given_outcome}
 use Rattle.turn_session.specs.Receiving.{Ends, Receives, outcome_after}
 use Rattle.turn_session.specs.SessionState.{SessionState, with_frames}
@@ -149,7 +149,7 @@ left-shorter was t s frames frame same put some =
 -- ---- the client comes first
 
 pub taking-next-fails : (now : ℕ) (was t s : SessionState) (held : Option Payload) → held ≡ (poll_recv_step now was.noted.client).0 → held ≡ None
-    → t ≡ after_held now was → TakingFails now t s → NextFails now was s
+    → t ≡ after_held now was → TakingFails now t s → TakingNextFails now was s
 taking-next-fails now was t s held given none after fails =
     inr (subst (λ (h : Option Payload). FailsAfter h now (after_held now was) s) (sym none ∙ given)
     (subst (λ (v : SessionState). TakingFails now v s) after fails))

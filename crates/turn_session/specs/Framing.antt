@@ -14,7 +14,7 @@ use Rattle.turn_session_book.specs.declared.causes.Why.TheVariants.{NotAStream, 
 use Rattle.turn_session_client.specs.Ending.{ended, is_over}
 use Rattle.turn_session_client.specs.NotedState.{is_stream}
 use Rattle.turn_session_client.specs.Receiving.{ended_with}
-use Rattle.turn_session.specs.Receiving.{Ends, Receives, is_of_server, outcome_after, with_sign}
+use Rattle.turn_session.specs.Receiving.{Ends, Receives, is_of_server, outcome_after}
 use Rattle.turn_session.specs.SessionState.{SessionState, with_frames, with_noted}
 use Rattle.turn_session.specs.Uses.{used_by}
 
@@ -90,9 +90,9 @@ abbrev pub is_piece : TransportType → SocketAddr → SocketAddr → List ℕ �
 is_piece transport from to bytes s =
     is_stream transport && not (length bytes == 0) && not (is_over s.noted.life.phase) && is_of_server transport from to s.noted.client
 
--- behind a frame that gives nothing of a peer comes the next data; a part of a frame shows that the path carries packets
+-- behind a frame that gives nothing of a peer comes the next data; a part of a frame shows nothing until the frame is whole
 abbrev pub Follows : ℕ → SessionState → SessionState → Option Outcome → Outcome → Type 0
-Follows now was s None outcome = (outcome ≡ Outcomes.Handled) × (s ≡ with_sign Outcomes.Handled now was)
+Follows now was s None outcome = (outcome ≡ Outcomes.Handled) × (s ≡ was)
 Follows now was s (Some (Outcomes.PeerData payload)) outcome = (outcome ≡ Outcomes.PeerData payload) × (s ≡ was)
 Follows now was s (Some (Outcomes.PeerIcmp transport peer icmp)) outcome = (outcome ≡ Outcomes.PeerIcmp transport peer icmp) × (s ≡ was)
 Follows now was s (Some first) outcome = OrData now was s first outcome
@@ -148,11 +148,11 @@ abbrev pub FailsAfter : Option Payload → ℕ → SessionState → SessionState
 FailsAfter (Some payload) now t s = s ≡ lost t
 FailsAfter None now t s = TakingFails now t s
 
-abbrev pub NextFails : ℕ → SessionState → SessionState → Type 0
-NextFails now was s = ClientFails now was s ⊎ FailsAfter (poll_recv_step now was.noted.client).0 now (after_held now was) s
+abbrev pub TakingNextFails : ℕ → SessionState → SessionState → Type 0
+TakingNextFails now was s = ClientFails now was s ⊎ FailsAfter (poll_recv_step now was.noted.client).0 now (after_held now was) s
 
 abbrev pub DataFails : ℕ → SessionState → SessionState → Type 0
-DataFails now was s = (n : ℕ) × (t : SessionState) × GivesNoData n now was t × NextFails now t s
+DataFails now was s = (n : ℕ) × (t : SessionState) × GivesNoData n now was t × TakingNextFails now t s
 
 -- behind a frame that gives nothing of a peer
 abbrev pub FollowingFails : ℕ → SessionState → SessionState → Option Outcome → Type 0

@@ -29,6 +29,7 @@ impl<C: TurnClientApi> Session<C> {
         ensures answer { IfOk result (λ answer. BytesGive transmit.transport transmit.from transmit.to (T.items transmit.payload) now
             self.old self.new (outcome_of answer)) }
         ensures hands_back { IfOk result (HandsBack transmit) }
+        ensures idle { self.new.idle ≡ self.old.idle }
         ensures free { IsOk result }
     {
         let answer = self.noted.recv_channel_datagram(transmit, now);

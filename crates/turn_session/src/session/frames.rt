@@ -6,7 +6,7 @@ ghost use Rattle.turn_client_api.specs.Answers.{EndsAfterSteps, given_payload, o
 ghost use Rattle.turn_client_api.specs.Payloads.{PeerData};
 ghost use Rattle.turn_client_api.specs.Streams.{HoldsLittle, owned, payload_in, poll_recv_step};
 ghost use Rattle.turn_session_client.specs.Receiving.{ended_with};
-ghost use Rattle.turn_session.specs.Framing.{CopyFails, FirstGives, FrameFails, FrameGives, NextFails};
+ghost use Rattle.turn_session.specs.Framing.{CopyFails, FirstGives, FrameFails, FrameGives, TakingNextFails};
 ghost use Rattle.turn_session.specs.Framing.{TakesFrame, TakesNext, TakingFails, WaitsForMore, after_held, lost, stopped};
 ghost use Rattle.turn_session.specs.Given.{given_outcome};
 ghost use Rattle.turn_session.specs.SessionState.{with_frames, with_noted};
@@ -32,7 +32,7 @@ impl<C: TurnClientApi> Session<C> {
         ensures little { IfOk result (λ given. IsNone given → WaitsForMore self.new) }
         ensures smaller { IfOk result (λ given. IfSome given (λ given. payload_in (given_outcome given) ≡ None
             → length self.new.frames.bytes < length self.old.frames.bytes)) }
-        ensures no_memory { OnErr result (NextFails now self.old self.new) }
+        ensures no_memory { OnErr result (TakingNextFails now self.old self.new) }
     {
         match self.take_held(now)? {
             Some(data) => {
@@ -186,15 +186,15 @@ impl<C: TurnClientApi> Session<C> {
     /// # Errors
     ///
     /// If memory allocation fails. The session has ended then: the data is lost.
-    fn copied<T: AsSlice<u8>>(&mut self, data: &TurnPeerData<T>) -> Result<Given, AllocError>
-        ensures given { IfOk result (λ given. given_outcome given ≡ owned (PeerData (given_payload «data».now))) }
+    fn copied<T: AsSlice<u8>>(&mut self, payload: &TurnPeerData<T>) -> Result<Given, AllocError>
+        ensures given { IfOk result (λ given. given_outcome given ≡ owned (PeerData (given_payload payload.now))) }
         ensures ok { OnOk result (self.new ≡ self.old) }
         ensures err { OnErr result (self.new ≡ lost self.old) }
     {
-        match Vec::from_slice(self.alloc, data.data()) {
+        match Vec::from_slice(self.alloc, payload.data()) {
             Ok(bytes) => Ok(Given::PeerData(PeerBytes {
-                transport: data.transport,
-                peer: data.peer,
+                transport: payload.transport,
+                peer: payload.peer,
                 bytes,
             })),
             Err(error) => {

@@ -26,8 +26,9 @@ impl<C: TurnClientApi> Session<C> {
     ///
     /// Over a stream to the server the bytes are cut into frames, and each is received by itself, as a datagram is (RFC 8656, section
     /// 12.5). The answer is what the first frame gave, or the first data of a peer behind it, as owned bytes; a part of a frame is
-    /// kept, and `Handled`. Bytes that begin no frame end the session: nothing can be read from such a stream any more. Call `poll_recv`
-    /// then until it returns none: more frames may wait. Data connections are not cut.
+    /// kept, and `Handled`, and is no sign of the path until the frame is whole: so it does not matter where the stream was cut. Bytes
+    /// that begin no frame end the session: nothing can be read from such a stream any more. Call `poll_recv` then until it returns
+    /// none: more frames may wait. Data connections are not cut.
     ///
     /// Data of a peer is a use of it, so that it is not idle.
     ///
@@ -42,6 +43,28 @@ impl<C: TurnClientApi> Session<C> {
     /// ChannelData does needs none (RFC 8656, section 12.4).
     #[inline(always)]
     pub fn recv<T: AsSlice<u8> + Debug + Drop>(
+        &mut self,
+        transmit: Transmit<T>,
+        now: Instant,
+    ) -> Result<TurnRecvRet<T>, AllocError>
+        requires now_in_range { now ≤ 2 ^ 62 }
+        ensures answer { IfOk result (λ answer. ReceivesBytes transmit.transport transmit.from transmit.to (T.items transmit.payload) now
+            self.old self.new (outcome_of answer)) }
+        ensures hands_back { IfOk result (HandsBack transmit) }
+        ensures no_memory { OnErr result (ReceivingFails transmit.transport transmit.from transmit.to (T.items transmit.payload) now
+            self.old self.new) }
+        ensures free { is_channel_datagram transmit.transport (T.items transmit.payload) ≡ true → IsOk result }
+    {
+        if is_channel_datagram(&transmit) && !self.idle.is_on() {
+            return self.recv_channel_datagram(transmit, now);
+        }
+        // The answer is large: if this call wrote it in place, each packet of a channel would be copied there.
+        let answer = self.recv_used(transmit, now);
+        answer
+    }
+
+    /// What `recv` does where a peer may be idle, whose use is noted.
+    fn recv_used<T: AsSlice<u8> + Debug + Drop>(
         &mut self,
         transmit: Transmit<T>,
         now: Instant,
@@ -80,7 +103,7 @@ impl<C: TurnClientApi> Session<C> {
         self.recv_other(transmit, now)
     }
 
-    /// What `recv` does with all but datagrams that begin as ChannelData does.
+    /// What `recv_bytes` does with all but datagrams that begin as ChannelData does.
     fn recv_other<T: AsSlice<u8> + Debug + Drop>(
         &mut self,
         transmit: Transmit<T>,
@@ -178,10 +201,7 @@ impl<C: TurnClientApi> Session<C> {
         ensures no_memory { OnErr result (FollowingFails now self.old self.new (option_map given_outcome first)) }
     {
         match first {
-            None => {
-                self.received = Some(now);
-                Ok(TurnRecvRet::Handled)
-            }
+            None => Ok(TurnRecvRet::Handled),
             Some(Given::Handled) => self.or_data(TurnRecvRet::Handled, now),
             Some(Given::Ignored) => self.or_data(TurnRecvRet::Ignored(transmit), now),
             Some(Given::PeerData(data)) => Ok(TurnRecvRet::PeerData(data.into_data())),
