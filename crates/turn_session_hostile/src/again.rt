@@ -1,7 +1,7 @@
 //! The calls of a run on a new session, which is polled earlier than it has asked for: the same answers.
 
+use crate::answered::{Answered, answered_by};
 use crate::setup::new_session;
-use crate::told::{Told, told_by};
 use crate::trace::{Rest, Trace, line_of, made};
 use std::alloc::Global;
 use turn_client_api::TurnClientApi;
@@ -51,8 +51,8 @@ fn poll_early<C: TurnClientApi>(
     session: &mut Session<C>,
     rest: Rest,
 ) -> Result<(), Fault> {
-    match told(alloc, session, rest.time, "poll") {
-        Ok(Told::Wait(until)) => expect(
+    match answered(alloc, session, rest.time, "poll") {
+        Ok(Answered::Wait(until)) => expect(
             until == rest.until,
             "a session that is polled early says another time",
         )?,
@@ -70,8 +70,8 @@ fn expect_nothing<C: TurnClientApi>(
     time: u64,
     words: &str,
 ) -> Result<(), Fault> {
-    match told(alloc, session, time, words) {
-        Ok(Told::Nothing) => Ok(()),
+    match answered(alloc, session, time, words) {
+        Ok(Answered::Nothing) => Ok(()),
         Ok(_) => Err(Fault::Wrong(
             "a session that is polled early has something to send or to report",
         )),
@@ -80,17 +80,17 @@ fn expect_nothing<C: TurnClientApi>(
 }
 
 /// What this call is answered.
-fn told<C: TurnClientApi>(
+fn answered<C: TurnClientApi>(
     alloc: Global,
     session: &mut Session<C>,
     time: u64,
     words: &str,
-) -> Result<Told, Fault> {
+) -> Result<Answered, Fault> {
     let line = line_of(alloc, time, words)?;
     let reply = match made(alloc, session, line.as_bytes()) {
         Ok(reply) => reply,
         Err(fault) => return Err(fault),
     };
     let mut bytes = Vec::new(alloc);
-    told_by(&reply, &mut bytes)
+    answered_by(&reply, &mut bytes)
 }

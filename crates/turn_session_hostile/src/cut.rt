@@ -1,13 +1,10 @@
 //! The calls of a run on a new session, whose streams come in other pieces: the same payloads, events and packets.
 //!
-//! The first part of a frame shows that the path carries bytes. So frames that the session ignores, which show nothing, are passed
-//! in whole, and so are responses where the path is probed: the session tells the path of earlier signs before it judges a response.
-//! What comes over a data connection is passed in whole too: a session does not cut it.
+//! What comes over a data connection is passed in whole: a session does not cut it.
 
 ghost use Rattle.std.specs.Prelude.{◌≤◌, ◌^◌};
 
-use crate::own::response_in;
-use crate::setup::{Setup, new_session};
+use crate::setup::new_session;
 use crate::trace::{Trace, call_of};
 use std::alloc::Global;
 use turn_client_api::{TurnClientApi, TurnRecvRet};
@@ -29,8 +26,6 @@ const MANY: u32 = 4_096;
 #[derive(Drop)]
 struct CutRun {
     alloc: Global,
-    /// Whether the path is probed.
-    is_probed: bool,
     cuts: Cuts,
     payloads: Payloads,
     /// The answers of all calls but those that pass bytes in, and what they were before.
@@ -58,7 +53,6 @@ pub fn same_when_cut(
     };
     let mut run = CutRun {
         alloc,
-        is_probed: Setup::new(seed).probe > 0,
         cuts: Cuts::new(cut, seed),
         payloads: Payloads::new(alloc, is_stream),
         answers: String::new(alloc),
@@ -101,10 +95,10 @@ impl CutRun {
     ) -> Result<(), Fault> {
         match call_of(self.alloc, line.as_bytes())? {
             SessionCall::Recv { transmit, now } => {
-                if before == "ignored" || self.is_whole(&transmit) {
-                    self.pass_piece(session, piece_of(&transmit), now)
-                } else {
+                if transmit.to == local() {
                     self.pass_in(session, &transmit, now)
+                } else {
+                    self.pass_piece(session, piece_of(&transmit), now)
                 }
             }
             SessionCall::PollRecv { .. } => Ok(()),
@@ -116,12 +110,6 @@ impl CutRun {
                 Ok(self.before.push('\n')?)
             }
         }
-    }
-
-    /// Whether a packet is of a data connection, or a response where the path is probed.
-    fn is_whole(&self, packet: &Transmit<Data>) -> bool {
-        let is_response = response_in(packet.payload.as_bytes()).is_some();
-        packet.to != local() || (self.is_probed && is_response)
     }
 
     /// Passes bytes in, piece by piece.

@@ -4,6 +4,7 @@ mod acting;
 mod receiving;
 mod resting;
 
+use crate::answered::Answered;
 use crate::counts::Counts;
 use crate::ending::Ending;
 use crate::grants::Grants;
@@ -12,7 +13,6 @@ use crate::sends::Sends;
 use crate::server::Server;
 use crate::setup::Setup;
 use crate::tickets::Tickets;
-use crate::told::Told;
 use crate::trace::Trace;
 use std::alloc::Global;
 use std::net::SocketAddr;
@@ -148,31 +148,31 @@ impl Drive {
         &mut self,
         session: &mut Session<C>,
         words: &str,
-    ) -> Result<Told, Fault> {
-        let told = match self.trace.make(session, self.now, words) {
-            Ok(told) => told,
+    ) -> Result<Answered, Fault> {
+        let answered = match self.trace.make(session, self.now, words) {
+            Ok(answered) => answered,
             Err(fault) => return Err(fault),
         };
         expect(
-            self.ending.permits(&told),
-            "something is told after the end",
+            self.ending.permits(&answered),
+            "something is reported after the end",
         )?;
-        match &told {
-            Told::Event(event) => {
+        match &answered {
+            Answered::Event(event) => {
                 self.counts.count(*event);
                 self.note_event(event)?;
             }
-            Told::Answer(Answer::Ended(why)) => self.ending.name(*why)?,
+            Answered::Answer(Answer::Ended(why)) => self.ending.name(*why)?,
             _ => {}
         }
-        Ok(told)
+        Ok(answered)
     }
 
     /// Takes all events.
     fn take_events<C: TurnClientApi>(&mut self, session: &mut Session<C>) -> Result<(), Fault> {
         for _ in 0..MANY {
             match self.make(session, "event") {
-                Ok(Told::Event(_)) => {}
+                Ok(Answered::Event(_)) => {}
                 Ok(_) => break,
                 Err(fault) => return Err(fault),
             }
@@ -199,7 +199,7 @@ impl Drive {
     /// Sends the next packet. Returns whether there was one.
     fn transmit_one<C: TurnClientApi>(&mut self, session: &mut Session<C>) -> Result<bool, Fault> {
         match self.make(session, "transmit") {
-            Ok(Told::Packet(from, to)) => {
+            Ok(Answered::Packet(from, to)) => {
                 self.send(from, to)?;
                 Ok(true)
             }

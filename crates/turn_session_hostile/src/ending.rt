@@ -1,6 +1,6 @@
 //! The end of a session: it comes once, has one cause, and nothing follows.
 
-use crate::told::Told;
+use crate::answered::Answered;
 use turn_hostile_net::fault::{Fault, expect};
 use turn_session_book::answers::Answer;
 use turn_session_book::causes::Why;
@@ -19,8 +19,8 @@ pub struct Ending {
     is_announced: bool,
     /// Why it has ended, as an event has said.
     over: Option<Why>,
-    /// Whether the server was heard, and the relay was up.
-    is_heard: bool,
+    /// Whether the first response was reported, and that the relay is up.
+    is_answered: bool,
     is_up: bool,
 }
 
@@ -33,7 +33,7 @@ impl Ending {
             cause: None,
             is_announced: false,
             over: None,
-            is_heard: false,
+            is_answered: false,
             is_up: false,
         }
     }
@@ -74,11 +74,8 @@ impl Ending {
         expect(self.over.is_none(), "an event follows the end")?;
         match event {
             Event::Heard => {
-                expect(
-                    !self.is_heard,
-                    "the server is heard twice for the first time",
-                )?;
-                self.is_heard = true;
+                expect(!self.is_answered, "the first response is reported twice")?;
+                self.is_answered = true;
                 Ok(())
             }
             Event::Up(..) => {
@@ -112,14 +109,14 @@ impl Ending {
         expect(before == why, "the end has two causes")
     }
 
-    /// Whether this may be told: after the end there is nothing but that it has ended.
-    pub fn permits(&self, told: &Told) -> bool {
+    /// Whether this may be answered: after the end there is nothing but that it has ended.
+    pub fn permits(&self, answered: &Answered) -> bool {
         let Some(why) = self.over else {
             return true;
         };
-        match told {
-            Told::Answer(Answer::Ended(other)) => *other == why,
-            Told::Over | Told::No | Told::Nothing | Told::Other => true,
+        match answered {
+            Answered::Answer(Answer::Ended(other)) => *other == why,
+            Answered::Over | Answered::No | Answered::Nothing | Answered::Other => true,
             _ => false,
         }
     }

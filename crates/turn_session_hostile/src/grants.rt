@@ -1,4 +1,4 @@
-//! What the session has told of grants, and what the caller has said of them.
+//! What the session has reported of grants, and what the caller has said of them.
 
 use std::alloc::Global;
 use turn_hostile_net::fault::{Fault, expect};
@@ -14,33 +14,33 @@ struct Mark {
     is_new: bool,
 }
 
-/// What the session has told of grants, and what the caller has said of them.
+/// What the session has reported of grants, and what the caller has said of them.
 #[derive(Drop)]
 pub struct Grants {
-    /// What was told to be granted, and not to have ended.
-    told: Vec<Key>,
+    /// What was reported to be granted, and not to have ended.
+    reported: Vec<Key>,
     marks: Vec<Mark>,
 }
 
 impl Grants {
-    /// Nothing was told.
+    /// Nothing was reported.
     pub fn new(alloc: Global) -> Grants {
         Grants {
-            told: Vec::new(alloc),
+            reported: Vec::new(alloc),
             marks: Vec::new(alloc),
         }
     }
 
-    /// The session has told that this key is granted.
+    /// The session has reported that this key is granted.
     ///
     /// # Errors
     ///
     /// If memory allocation fails.
     pub fn grant(&mut self, key: Key) -> Result<(), Fault> {
-        if self.told.as_slice().contains(&key) {
+        if self.reported.as_slice().contains(&key) {
             return Ok(());
         }
-        Ok(self.told.push(key)?)
+        Ok(self.reported.push(key)?)
     }
 
     /// The caller says whether this key is kept.
@@ -60,7 +60,7 @@ impl Grants {
         )
     }
 
-    /// The session has told that this key has ended, which the caller has kept or let go.
+    /// The session has reported that this key has ended, which the caller has kept or let go.
     ///
     /// # Errors
     ///
@@ -73,10 +73,10 @@ impl Grants {
             }
         }
         self.forget(key);
-        let place = self.told.iter().position(|told| *told == key);
+        let place = self.reported.iter().position(|reported| *reported == key);
         if let Some(place) = place {
-            if place < self.told.len() {
-                self.told.remove(place);
+            if place < self.reported.len() {
+                self.reported.remove(place);
             }
         }
         expect(
@@ -85,14 +85,14 @@ impl Grants {
         )
     }
 
-    /// Nothing is due. What was told to be granted is listed, and what the caller has said of a key counts as long as that
+    /// Nothing is due. What was reported to be granted is listed, and what the caller has said of a key counts as long as that
     /// is listed or requested.
     ///
     /// # Errors
     ///
     /// `Wrong` if something is not listed that was granted.
     pub fn settle(&mut self, listed: &[HeldGrant]) -> Result<(), Fault> {
-        for key in self.told.iter() {
+        for key in self.reported.iter() {
             expect(
                 is_listed(listed, *key),
                 "what was granted is neither listed nor reported to have ended",

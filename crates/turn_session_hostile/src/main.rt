@@ -29,6 +29,7 @@
 
 mod acts;
 mod again;
+mod answered;
 mod counts;
 mod cut;
 mod drive;
@@ -39,7 +40,6 @@ mod sends;
 mod server;
 mod setup;
 mod tickets;
-mod told;
 mod trace;
 mod whole;
 mod words;

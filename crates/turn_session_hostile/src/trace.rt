@@ -3,7 +3,7 @@
 ghost use Rattle.std.specs.Prelude.{IfOk};
 ghost use Rattle.turn_session_lines.specs.Reply.{IsCallable};
 
-use crate::told::{Told, told_by};
+use crate::answered::{Answered, answered_by};
 use std::alloc::Global;
 use turn_client_api::TurnClientApi;
 use turn_hostile_net::cuts::Payloads;
@@ -68,7 +68,7 @@ impl Trace {
         session: &mut Session<C>,
         now: u64,
         words: &str,
-    ) -> Result<Told, Fault> {
+    ) -> Result<Answered, Fault> {
         self.calls = self.calls.saturating_add(1);
         let line = line_of(self.alloc, now, words)?;
         self.lines.push_str(line.as_str())?;
@@ -79,14 +79,14 @@ impl Trace {
         };
         let answer = answer_text(self.alloc, &reply)?;
         self.answers.push_str(answer.as_str())?;
-        let told = match told_by(&reply, &mut self.bytes) {
-            Ok(told) => told,
+        let answered = match answered_by(&reply, &mut self.bytes) {
+            Ok(answered) => answered,
             Err(fault) => return Err(fault),
         };
-        if let Told::Payload(peer) = &told {
+        if let Answered::Payload(peer) = &answered {
             self.payloads.note(*peer, self.bytes.as_slice())?;
         }
-        Ok(told)
+        Ok(answered)
     }
 
     /// Nothing is due at this time, and until that one. The next call is no earlier.

@@ -2,7 +2,7 @@
 
 use super::Drive;
 use crate::acts::{Act, LastAct, act_of};
-use crate::told::Told;
+use crate::answered::Answered;
 use std::net::SocketAddr;
 use turn_client_api::TurnClientApi;
 use turn_hostile_net::facts::Fact;
@@ -28,8 +28,8 @@ impl Drive {
             return Ok(());
         }
         let queued = session.client().queued_requests();
-        let told = match self.call(session, act) {
-            Ok(told) => told,
+        let answered = match self.call(session, act) {
+            Ok(answered) => answered,
             Err(fault) => return Err(fault),
         };
         if queued >= MAX_QUEUED {
@@ -38,7 +38,7 @@ impl Drive {
                 "more than eight requests of the caller are queued",
             )?;
         }
-        self.note(act, told)
+        self.note(act, answered)
     }
 
     /// A drawn call. A data connection is closed to its own peer, if it was opened.
@@ -56,29 +56,29 @@ impl Drive {
         &mut self,
         session: &mut Session<C>,
         act: Act,
-    ) -> Result<Told, Fault> {
+    ) -> Result<Answered, Fault> {
         let words = format!(in self.alloc; "{act}")?;
         self.make(session, words.as_str())
     }
 
     /// Notes what a call of the caller was answered.
-    fn note(&mut self, act: Act, told: Told) -> Result<(), Fault> {
-        match (act, told) {
-            (Act::Request(key, _), Told::Answer(answer)) => self.note_request(key, answer),
-            (Act::Send(_, peer, _), Told::Answer(answer)) => {
+    fn note(&mut self, act: Act, answered: Answered) -> Result<(), Fault> {
+        match (act, answered) {
+            (Act::Request(key, _), Answered::Answer(answer)) => self.note_request(key, answer),
+            (Act::Send(_, peer, _), Answered::Answer(answer)) => {
                 self.note_request(Key::Permission(peer.ip()), answer)
             }
-            (Act::Send(_, peer, _), Told::Packet(_, to)) => {
+            (Act::Send(_, peer, _), Answered::Packet(_, to)) => {
                 expect(to == server(), "data is sent elsewhere")?;
                 expect(
                     self.model.facts.has(Fact::Permitted(peer.ip())),
                     "data is sent to a peer that is not permitted",
                 )
             }
-            (Act::Look(key), Told::Answer(Answer::Granted)) => self.expect_granted(key),
-            (Act::Have(_, ip), Told::Yes) => self.expect_granted(Key::Permission(ip)),
-            (Act::Keep(key, is_kept), Told::Yes) => self.grants.mark(key, is_kept),
-            (Act::Check, Told::Answer(Answer::Ticket(number))) => {
+            (Act::Look(key), Answered::Answer(Answer::Granted)) => self.expect_granted(key),
+            (Act::Have(_, ip), Answered::Yes) => self.expect_granted(Key::Permission(ip)),
+            (Act::Keep(key, is_kept), Answered::Yes) => self.grants.mark(key, is_kept),
+            (Act::Check, Answered::Answer(Answer::Ticket(number))) => {
                 self.tickets.give_check(number, self.now)
             }
             (Act::Last(last), _) => {

@@ -1,8 +1,8 @@
 //! What arrives, and the data of peers that it carries.
 
 use super::{Drive, MANY};
+use crate::answered::Answered;
 use crate::own::{ResponseTo, response_in};
-use crate::told::Told;
 use std::net::SocketAddr;
 use turn_client_api::TurnClientApi;
 use turn_hostile_net::facts::Fact;
@@ -55,16 +55,16 @@ impl Drive {
         };
         let may_count = self.model.believe(self.kind, truth, self.now)?;
         let is_certain = self.is_certain(session, packet);
-        let told = match self.receive_packet(session, packet) {
-            Ok(told) => told,
+        let answered = match self.receive_packet(session, packet) {
+            Ok(answered) => answered,
             Err(fault) => return Err(fault),
         };
-        let is_given = matches!(&told, Told::Payload(_));
+        let is_given = matches!(&answered, Answered::Payload(_));
         expect(
             is_given || !is_certain,
             "data of a permitted peer is dropped",
         )?;
-        if matches!(&told, Told::Handled) {
+        if matches!(&answered, Answered::Handled) {
             expect(may_count, "a response counts twice")?;
             expect(!is_foreign, "a response of another method counts")?;
             self.model.settle(truth, self.now);
@@ -105,7 +105,7 @@ impl Drive {
         &mut self,
         session: &mut Session<C>,
         packet: &Packet,
-    ) -> Result<Told, Fault> {
+    ) -> Result<Answered, Fault> {
         let transport = self.transport_to(packet.to);
         let bytes = packet.bytes.as_slice();
         let words = recv_words(self.alloc, transport, packet.from, packet.to, bytes)?;
@@ -125,7 +125,7 @@ impl Drive {
     fn drain<C: TurnClientApi>(&mut self, session: &mut Session<C>) -> Result<(), Fault> {
         for _ in 0..MANY {
             match self.receive(session, "poll_recv", None) {
-                Ok(Told::Payload(_)) => {}
+                Ok(Answered::Payload(_)) => {}
                 Ok(_) => break,
                 Err(fault) => return Err(fault),
             }
@@ -140,12 +140,12 @@ impl Drive {
         session: &mut Session<C>,
         words: &str,
         packet: Option<&Packet>,
-    ) -> Result<Told, Fault> {
-        let told = match self.make(session, words) {
-            Ok(told) => told,
+    ) -> Result<Answered, Fault> {
+        let answered = match self.make(session, words) {
+            Ok(answered) => answered,
             Err(fault) => return Err(fault),
         };
-        if let Told::Payload(peer) = &told {
+        if let Answered::Payload(peer) = &answered {
             let peer = *peer;
             self.counts.payloads = self.counts.payloads.saturating_add(1);
             let facts = &self.model.facts;
@@ -162,7 +162,7 @@ impl Drive {
                 )?;
             }
         }
-        Ok(told)
+        Ok(answered)
     }
 
     /// Whether this packet has data that the session is to return: that of a peer which it says to be permitted, before the

@@ -1,7 +1,7 @@
 //! What is due, and the times at which nothing is.
 
 use super::Drive;
-use crate::told::Told;
+use crate::answered::Answered;
 use turn_client_api::TurnClientApi;
 use turn_hostile_net::facts::Fact;
 use turn_hostile_net::fault::{Fault, expect};
@@ -32,13 +32,13 @@ impl Drive {
 
     /// Polls, takes all events, and sends what is due. Returns whether nothing more is due now.
     fn poll<C: TurnClientApi>(&mut self, session: &mut Session<C>) -> Result<bool, Fault> {
-        let told = match self.make(session, "poll") {
-            Ok(told) => told,
+        let answered = match self.make(session, "poll") {
+            Ok(answered) => answered,
             Err(fault) => return Err(fault),
         };
-        match &told {
-            Told::Open(id, peer) => self.offer(session, *id, *peer)?,
-            Told::Close(end) => expect(
+        match &answered {
+            Answered::Open(id, peer) => self.offer(session, *id, *peer)?,
+            Answered::Close(end) => expect(
                 self.model.offers.peer_at(*end).is_some(),
                 "a connection is to be closed that was not opened",
             )?,
@@ -46,12 +46,12 @@ impl Drive {
         }
         self.take_events(session)?;
         let is_sent = self.transmit(session)?;
-        match &told {
-            Told::Wait(until) => {
+        match &answered {
+            Answered::Wait(until) => {
                 self.until = *until;
                 Ok(*until > self.now && !is_sent)
             }
-            Told::Over => {
+            Answered::Over => {
                 self.until = u64::MAX;
                 expect(
                     self.ending.is_over(),
@@ -99,7 +99,7 @@ impl Drive {
         Ok(())
     }
 
-    /// What is listed is active, and what was told to be granted is listed.
+    /// What is listed is active, and what was reported to be granted is listed.
     fn check_grants<C: TurnClientApi>(&mut self, session: &Session<C>) -> Result<(), Fault> {
         if self.ending.is_leaving() {
             return Ok(());

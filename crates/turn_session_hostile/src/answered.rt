@@ -10,7 +10,7 @@ use turn_session_lines::reply::SessionReply;
 
 /// What a call was answered.
 #[derive(Clone, Copy)]
-pub enum Told {
+pub enum Answered {
     /// Nothing is due until this time, in nanoseconds.
     Wait(u64),
     /// The session has ended.
@@ -44,47 +44,47 @@ pub enum Told {
 /// # Errors
 ///
 /// If memory allocation fails.
-pub fn told_by(reply: &SessionReply, bytes: &mut Vec<u8>) -> Result<Told, Fault> {
+pub fn answered_by(reply: &SessionReply, bytes: &mut Vec<u8>) -> Result<Answered, Fault> {
     bytes.clear();
     match reply {
-        SessionReply::OfClient(reply) => told_by_client(reply, bytes),
-        SessionReply::Event(Some(event)) => Ok(Told::Event(*event)),
-        SessionReply::Answer(Some(answer)) => Ok(Told::Answer(*answer)),
-        SessionReply::Event(None) | SessionReply::Answer(None) => Ok(Told::Nothing),
+        SessionReply::OfClient(reply) => answered_by_client(reply, bytes),
+        SessionReply::Event(Some(event)) => Ok(Answered::Event(*event)),
+        SessionReply::Answer(Some(answer)) => Ok(Answered::Answer(*answer)),
+        SessionReply::Event(None) | SessionReply::Answer(None) => Ok(Answered::Nothing),
         SessionReply::Kept(kept) => Ok(yes_or_no(kept.is_ok())),
-        _ => Ok(Told::Other),
+        _ => Ok(Answered::Other),
     }
 }
 
 /// The same for a call that the client has too.
-fn told_by_client(reply: &Reply, bytes: &mut Vec<u8>) -> Result<Told, Fault> {
+fn answered_by_client(reply: &Reply, bytes: &mut Vec<u8>) -> Result<Answered, Fault> {
     match reply {
-        Reply::Poll(polled) => Ok(told_by_poll(polled)),
+        Reply::Poll(polled) => Ok(answered_by_poll(polled)),
         Reply::Transmit(Some(packet)) | Reply::SendTo(Ok(packet)) => {
             bytes.extend_from_slice(packet.payload.as_bytes())?;
-            Ok(Told::Packet(packet.from, packet.to))
+            Ok(Answered::Packet(packet.from, packet.to))
         }
-        Reply::Transmit(None) | Reply::NoData => Ok(Told::Nothing),
+        Reply::Transmit(None) | Reply::NoData => Ok(Answered::Nothing),
         Reply::PeerData(given) => {
             bytes.extend_from_slice(given.data.as_bytes())?;
-            Ok(Told::Payload(given.peer))
+            Ok(Answered::Payload(given.peer))
         }
-        Reply::Handled => Ok(Told::Handled),
+        Reply::Handled => Ok(Answered::Handled),
         Reply::HavePermission(holds) => Ok(yes_or_no(*holds)),
         Reply::AllocatedTcpSocket(taken) => Ok(yes_or_no(taken.is_ok())),
-        _ => Ok(Told::Other),
+        _ => Ok(Answered::Other),
     }
 }
 
-fn told_by_poll(polled: &TurnPollRet) -> Told {
+fn answered_by_poll(polled: &TurnPollRet) -> Answered {
     match polled {
-        TurnPollRet::WaitUntil(until) => Told::Wait(until.as_nanos()),
-        TurnPollRet::AllocateTcpSocket { id, peer_addr, .. } => Told::Open(*id, *peer_addr),
-        TurnPollRet::TcpClose { local_addr, .. } => Told::Close(*local_addr),
-        TurnPollRet::Closed => Told::Over,
+        TurnPollRet::WaitUntil(until) => Answered::Wait(until.as_nanos()),
+        TurnPollRet::AllocateTcpSocket { id, peer_addr, .. } => Answered::Open(*id, *peer_addr),
+        TurnPollRet::TcpClose { local_addr, .. } => Answered::Close(*local_addr),
+        TurnPollRet::Closed => Answered::Over,
     }
 }
 
-fn yes_or_no(holds: bool) -> Told {
-    if holds { Told::Yes } else { Told::No }
+fn yes_or_no(holds: bool) -> Answered {
+    if holds { Answered::Yes } else { Answered::No }
 }
