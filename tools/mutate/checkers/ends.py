@@ -3,7 +3,8 @@
 Causes are `error`; a response to an ALLOCATE that allocates nothing or cannot be trusted, or none in time; the expiry of each
 allocation; a `delete`, once its reply or its time has come; and one challenge more in a row than are answered (RFC 8656, sections
 7 and 8; RFC 8489, sections 6.2 and 9.2). After `error`, after a reply that confirms a `delete`, and after `closed` was answered a
-client has ended: then `poll` answers so, or has the caller take at once what is pending.
+client has ended: then `poll` answers so, or has the caller take at once what is pending. No reply confirms a `delete` if since
+then a REFRESH of before has succeeded in each allocation, for 600 s or more: these stay (docs/rattle/DECISIONS.md).
 """
 from . import stun
 from .facts import LEAST_LIFETIME, SECOND, TIMEOUT, walk
@@ -19,10 +20,13 @@ class Causes:
     def __init__(self, run):
         self.families = {VERSIONS[word] for word in run.families}
         self.began, self.until, self.challenges, self.may_end = None, 0, 0, False
+        self.allocations = 1
         # the ID of the last ALLOCATE, and whether it was answered by what may be no challenge for the client
         self.asked, self.is_in_doubt = None, False
+        self.deletions = Deletions()
 
     def call(self, call, step):
+        self.deletions.call(call, step, 1 if self.may_end else self.allocations)
         self.may_end |= call.answer == ["ok"] and call.name in ("delete", "error")
         if step.sent is not None and self.began is None:
             self.began = call.time
@@ -45,7 +49,7 @@ class Causes:
             lifetime, is_success = message.number(stun.LIFETIME), message.kind == stun.SUCCESS
             families = {ip.version for ip, _ in message.addresses(stun.RELAYED)} & self.families
             if request.message.method == message.method == stun.ALLOCATE and is_success and lifetime and families:
-                self.until = call.time + lifetime * SECOND
+                self.until, self.allocations = call.time + lifetime * SECOND, len(families)
         responses = sum(one.message is not None and one.message.is_response() for one in step.inputs)
         self.may_end |= not self.until and responses > len(step.challenges)
         self.is_in_doubt |= bool(step.challenges)
@@ -61,14 +65,50 @@ class Causes:
                 self.until = granted if len(self.families) == 1 else min(self.until, granted)
 
 
-def has_ended(call, step):
+class Deletions:
+    """The REFRESHes of 0 seconds, and which of them a reply still confirms for certain."""
+
+    def __init__(self):
+        # by `delete`: the least number of allocations that it was for, and how many refreshes have succeeded since
+        self.left, self.refreshed = [], []
+        # the IDs of those that were sent, in this order, and how many challenges to them came: each is sent again for one
+        self.ids, self.again = [], 0
+
+    def call(self, call, step, allocations):
+        if call.name == "delete" and call.answer == ["ok"]:
+            self.left.append(allocations)
+            self.refreshed.append(0)
+        if step.sent is not None and is_deletion(step.sent) and step.sent.id not in self.ids:
+            self.ids.append(step.sent.id)
+        self.again += sum(is_deletion(request.message) for request, _, _ in step.challenges)
+        for request, message in step.replies:
+            if is_prolonged_by(request, message):
+                self.refreshed = [it + 1 for it in self.refreshed]
+
+    def are_confirmed(self, request):
+        """Whether a reply to this request says that all is deleted. It was made by the `delete` at its place, or by a later one."""
+        place = max(0, self.ids.index(request.message.id) - self.again)
+        return place < len(self.left) and self.refreshed[place] < min(self.left[place:])
+
+
+def is_deletion(message):
+    return message.kind == stun.REQUEST and message.method == stun.REFRESH and message.number(stun.LIFETIME) == 0
+
+
+def is_prolonged_by(request, message):
+    """Whether an allocation lasts for 600 s or more with this reply."""
+    is_refresh = request.message.method == message.method == stun.REFRESH and not is_deletion(request.message)
+    return is_refresh and message.kind == stun.SUCCESS and (message.number(stun.LIFETIME) or 0) >= LEAST_LIFETIME
+
+
+def has_ended(call, step, deletions):
     """Whether the client has ended for certain by this call."""
     if call.name == "error" or call.name == "poll" and call.answer == ["closed"]:
         return True
     if call.answer != ["handled"] or len(step.inputs) != 1:
         return False
-    deletes = [message for request, message in step.replies if request.message.method == message.method == stun.REFRESH and
-               request.message.number(stun.LIFETIME) == 0]
+    deletes = [message for request, message in step.replies if is_deletion(request.message) and message.method == stun.REFRESH and
+               deletions.are_confirmed(request)]
     return any(message.kind == stun.SUCCESS or message.code() == MISMATCH for message in deletes)
 
 
@@ -82,4 +122,4 @@ def faults(runs):
             yield call, "it has ended, and nothing has ended it"
         if is_over and (call.wait() is not None or call.name == "poll" and call.answer[0] == "socket"):
             yield call, f"it has ended, and answers {call.answer[0]}"
-        is_over |= has_ended(call, step)
+        is_over |= has_ended(call, step, causes.deletions)

@@ -1,8 +1,8 @@
 """`paced`: requests that are timed from their first copies leave in their turn (RFC 8489, section 6.2.1).
 
-No request leaves for the first time within the pause after another packet that is no reply, unless a call between the two was made
-at an earlier time. None leaves for the first time once the client has ended, since its grants are gone. And of no permission or
-channel it is told that it failed before a request for it has left.
+No request leaves for the first time, and no indication, within the pause after another packet that is no reply, unless a call
+between the two was made at an earlier time. No request leaves for the first time once the client has ended, since its grants are
+gone. And of no permission or channel it is told that it failed before a request for it has left.
 """
 from . import stun
 from .lines import address_in, bytes_in, ip_in
@@ -22,8 +22,9 @@ class Sent:
         return message.kind == stun.REQUEST and message.id not in self.ids
 
     def is_early(self, call, message):
-        """Whether this packet is a request that leaves for the first time, within the pause."""
-        return self.is_first(message) and self.last is not None and call.time < self.last + PAUSE
+        """Whether this packet is an indication, or a request that leaves for the first time, within the pause."""
+        waits = message.kind == stun.INDICATION or self.is_first(message)
+        return waits and self.last is not None and call.time < self.last + PAUSE
 
     def note(self, call, message):
         if message.kind == stun.REQUEST:
@@ -61,7 +62,7 @@ def faults(runs):
             yield call, "the packet is no message"
             continue
         if sent.is_early(call, message):
-            yield call, f"a request leaves {call.time - sent.last} ns after the packet before it"
+            yield call, f"a packet leaves {call.time - sent.last} ns after the one before it"
         if sent.has_ended and sent.is_first(message):
             yield call, "a request leaves for the first time though the client has ended"
         sent.note(call, message)
