@@ -1,4 +1,4 @@
--- The bytes of the messages that a client writes: those of the standards, signed without the password but for the key.
+-- The bytes of the messages that a client writes: those of the standards, in which the password is in the key of the integrity alone.
 use Rattle.turn_client_laws.proofs.Common.{◌≡◌, ◌∙◌, ◌+◌, ◌*◌, ℕ, List, [], ◌∷◌, Option, Some, refl, ap, IpAddr, SocketAddr}
 use Rattle.turn_client_laws.proofs.Machine.{Addition, AddressFamily, Challenge, Error, IPV4, IPV6, Indication, MessageClass, Purpose, ForAllocation, ForBind, ForChannel, ForConnect, ForPermission, ForRefresh}
 use Rattle.turn_client_laws.proofs.Machine.{Request, State, Success, accepted_reply, additions_for, allocate_method, asked_attributes, attribute, channel_bind_method, connect_method}
@@ -6,13 +6,24 @@ use Rattle.turn_client_laws.proofs.Machine.{connection_attempt_method, connectio
 use Rattle.turn_client_laws.proofs.Machine.{refused_reply, request_for, signed, signed_by, type_of, with_additions, with_integrity}
 use Rattle.turn_client_api.specs.Requests.{without_port}
 use Rattle.std.specs.declared.net.ip_addr.IpAddr.TheVariants as Ip
+use Rattle.std.specs.Prelude.{◌-◌, length}
+use Rattle.std.proofs.Math.Seq.{take-length}
+use Rattle.md5.specs.Md5.{md5}
+use Rattle.sha1.specs.Sha1.{sha1}
+use Rattle.sha2.specs.Sha256.{sha256}
 use Rattle.turn_auth.specs.Credentials.{Credentials}
+use Rattle.turn_auth.specs.Hmac.{hmac}
+use Rattle.turn_auth.specs.Key.{key_of}
+use Rattle.turn_auth.specs.Signature.{algorithm_additions, request_additions, user_addition}
+use Rattle.turn_auth.specs.declared.integrity.IntegrityAlgorithm.{IntegrityAlgorithm}
+use Rattle.turn_auth.specs.declared.integrity.IntegrityAlgorithm.TheVariants.{Sha1, Sha256}
+use Rattle.turn_stun.specs.Writer.{with_attribute, with_length}
 use Rattle.turn_auth.specs.declared.feature.Feature.{Feature}
 use Rattle.turn_auth.specs.declared.feature.Feature.TheVariants.{Auto, Disabled, Required}
 use Rattle.turn_stun.specs.MessageType.{class_of, type_number}
 use Rattle.turn_stun.specs.Refusal.{Refusal}
 use Rattle.turn_stun.specs.Values.{error_code_value}
-use Rattle.turn_client_runs.specs.Leaving.{first_request, message_with, portless, request_of, requested_families, signed_as, without_password, xor_peer}
+use Rattle.turn_client_runs.specs.Leaving.{algorithm_attributes, first_request, key_input, message_with, portless, request_of, requested_families, signed_as, user_attribute, user_attributes, with_mac, xor_peer}
 use Rattle.turn_client_runs.specs.Leaving as L
 use Rattle.turn_client_runs.proofs.SentTexts.{Leads, additions-leads}
 
@@ -31,14 +42,36 @@ portless-same (Ip.V6 a) = refl
 
 -- ---- the signature
 
+algorithms-same : (algorithm : IntegrityAlgorithm) (offered : List ℕ) → algorithm_additions algorithm offered ≡ algorithm_attributes algorithm offered
+algorithms-same Sha1 offered = refl
+algorithms-same Sha256 offered = refl
+
 -- of the credentials it has the user alone
-user-alone : (class : MessageClass) (anonymous : Feature) (c : Credentials) (d : Challenge) → additions_for class anonymous c d ≡ additions_for class anonymous (without_password c) d
-user-alone Request Auto c d = refl
-user-alone Request Disabled c d = refl
-user-alone Request Required c d = refl
+user-same : (anonymous : Feature) (c : Credentials) (realm : List ℕ) → user_addition anonymous c realm ≡ user_attribute anonymous c.user realm
+user-same Auto c realm = refl
+user-same Disabled c realm = refl
+user-same Required c realm = refl
+
+request-same : (anonymous : Feature) (c : Credentials) (d : Challenge) → request_additions anonymous c d ≡ user_attributes Request anonymous c.user d
+request-same anonymous c d =
+    ap (λ (user : Addition). user ∷ L.attribute 0x0014 d.realm ∷ L.attribute 0x0015 d.nonce ∷ algorithm_additions d.algorithm d.password_algorithms)
+    (user-same anonymous c d.realm)
+    ∙ ap (λ (more : List Addition). user_attribute anonymous c.user d.realm ∷ L.attribute 0x0014 d.realm ∷ L.attribute 0x0015 d.nonce ∷ more)
+    (algorithms-same d.algorithm d.password_algorithms)
+
+user-alone : (class : MessageClass) (anonymous : Feature) (c : Credentials) (d : Challenge) → additions_for class anonymous c d ≡ user_attributes class anonymous c.user d
+user-alone Request anonymous c d = request-same anonymous c d
 user-alone Indication anonymous c d = refl
 user-alone Success anonymous c d = refl
 user-alone Error anonymous c d = refl
+
+-- the integrity covers all before it
+integrity-same : (algorithm : IntegrityAlgorithm) (c : Credentials) (realm text : List ℕ)
+    → with_integrity algorithm (key_of c realm algorithm) text ≡ with_mac algorithm (key_input c realm) text
+integrity-same Sha1 c realm text =
+    ap (λ (covered : List ℕ). with_attribute 0x0008 (hmac sha1 (md5 (key_input c realm)) (with_length (length text - 20 + 24) covered)) text) (take-length text)
+integrity-same Sha256 c realm text =
+    ap (λ (covered : List ℕ). with_attribute 0x001c (hmac sha256 (sha256 (key_input c realm)) (with_length (length text - 20 + 36) covered)) text) (take-length text)
 
 -- a message that begins so is of this class
 class-leads : (a b : ℕ) (text : List ℕ) → Leads a b text → class_of (type_of text) ≡ class_of (a * 256 + b)
@@ -53,6 +86,8 @@ module _ (u : State) (d : Challenge) (held : u.held ≡ Some d) where
         ∙ ap (λ (added : List Addition). with_integrity d.algorithm (held_key u.config.credentials d) (with_additions added text))
         (ap (λ (k : MessageClass). additions_for k u.config.anonymous_username u.config.credentials d) (class-leads a b text leads ∙ is)
         ∙ user-alone class u.config.anonymous_username u.config.credentials d)
+        ∙ integrity-same d.algorithm u.config.credentials d.realm
+        (with_additions (user_attributes class u.config.anonymous_username u.config.credentials.user d) text)
 
     -- a message with this header
     written-is : (method : ℕ) → ((id : ℕ) → Leads a b (header_of (type_number method class) id)) → (attributes : List Addition) (id : ℕ)

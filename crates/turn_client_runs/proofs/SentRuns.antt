@@ -7,7 +7,7 @@ use Rattle.turn_client_laws.proofs.Machine.{initial, Call, DataConnection, Grant
 use Rattle.turn_client_laws.proofs.Machine.{Queued, active_channel, bound_to, can_send_to, on_channel, on_connection, send_over, send_to_step, is_paused, keepalive_times}
 use Rattle.turn_client_laws.proofs.Machine.{allocations, as_connection, binding_indication, first_allocate, fresh_id, request_for}
 use Rattle.turn_client_laws.proofs.Machine.{state_after_all, idle_step, keepalive_step, next_queued, queue_step, refreshes_in, reply_in, reply_step, transmit_step, same_address-true, Has, first-has}
-use Rattle.turn_client_laws.proofs.Machine.{has-all, has-filter_map, has-found, AllocatedTcpSocket, BindChannel, bound, challenge_in}
+use Rattle.turn_client_laws.proofs.Machine.{has-all, has-filter_map, has-found, AllocatedTcpSocket, BindChannel, auth_of, bound, challenge_in, challenge_of-sound}
 use Rattle.turn_client_laws.proofs.Laws.{queued-there, AsksServer, IsToServer, by_found, by_test}
 use Rattle.turn_client_laws.proofs.Laws.{has-contains, Input, initial-HasGrantsAsked, initial-numbers}
 use Rattle.turn_client_api.specs.declared.error.SendError.{SendError}
@@ -120,7 +120,7 @@ module _ (transport : TransportType) (local remote : SocketAddr) (config : Confi
       )
 
       heard : (one : Input) → Contains (handled_in first calls) one → (d : Challenge) → challenge_in one.before one.bytes ≡ Some d → Hears calls d
-      heard one among d is = (one, among, is)
+      heard one among d is = (one, among, challenge_of-sound (auth_of one.before) one.bytes d is)
 
       begun : GoesOn (Asks calls) (Hears calls) first (own-asked calls first) (brings-asked calls first) first
       begun = record {

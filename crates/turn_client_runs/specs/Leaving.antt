@@ -1,5 +1,5 @@
 -- What a client writes to its server, by its bytes (RFC 8656, sections 7 to 12; RFC 6062, section 4; RFC 8489, section 9.2).
-use Rattle.std.specs.Prelude.{◌≡◌, ◌⊎◌, ℕ, List, [], ◌∷◌, ◌++◌, codes, Some, ⊤}
+use Rattle.std.specs.Prelude.{◌≡◌, ◌⊎◌, ℕ, ◌+◌, ◌-◌, List, [], ◌∷◌, ◌++◌, length, codes, Some, ⊤}
 use Rattle.std.specs.List.{Contains}
 use Rattle.std.specs.Net.Addr.{ipv4_octets, ipv6_segments}
 use Rattle.std.specs.Net.Socket.{socket_ip}
@@ -7,10 +7,13 @@ use Rattle.std.specs.declared.net.ip_addr.IpAddr.{IpAddr}
 use Rattle.std.specs.declared.net.ip_addr.IpAddr.TheVariants as Ip
 use Rattle.std.specs.declared.net.socket_addr.SocketAddr.{SocketAddr}
 use Rattle.std.specs.declared.net.socket_addr.SocketAddr.TheVariants.{V4, V6}
+use Rattle.md5.specs.Md5.{md5}
+use Rattle.sha1.specs.Sha1.{sha1}
+use Rattle.sha2.specs.Sha256.{sha256}
 use Rattle.turn_stun.specs.MessageType.{type_number}
 use Rattle.turn_stun.specs.Refusal.{Refusal}
 use Rattle.turn_stun.specs.Values.{error_code_value}
-use Rattle.turn_stun.specs.Writer.{header_of}
+use Rattle.turn_stun.specs.Writer.{header_of, with_attribute, with_length}
 use Rattle.turn_stun.specs.XorAddress.{xor_value, xor_v4, xor_v6}
 use Rattle.turn_stun.specs.declared.message.header.MessageClass.{MessageClass}
 use Rattle.turn_stun.specs.declared.message.header.MessageClass.TheVariants.{Error, Indication, Request, Success}
@@ -19,13 +22,17 @@ use Rattle.turn_stun.specs.declared.transport.Transmit.{Transmit}
 use Rattle.turn_types.specs.Values.{channel_number_value, family_value, number_value, transport_value}
 use Rattle.turn_types.specs.declared.family.AddressFamily.{AddressFamily}
 use Rattle.turn_types.specs.declared.family.AddressFamily.TheVariants.{IPV6}
+use Rattle.turn_auth.specs.Challenge.{IsChallenge}
 use Rattle.turn_auth.specs.Credentials.{Credentials}
-use Rattle.turn_auth.specs.Key.{key_of}
+use Rattle.turn_auth.specs.Hmac.{hmac}
 use Rattle.turn_auth.specs.LongTerm.{Challenge}
-use Rattle.turn_auth.specs.Signature.{Addition, additions_for, with_additions, with_integrity}
+use Rattle.turn_auth.specs.Signature.{Addition, with_additions}
+use Rattle.turn_auth.specs.declared.feature.Feature.{Feature}
+use Rattle.turn_auth.specs.declared.feature.Feature.TheVariants.{Auto, Disabled, Required}
+use Rattle.turn_auth.specs.declared.integrity.IntegrityAlgorithm.{IntegrityAlgorithm}
+use Rattle.turn_auth.specs.declared.integrity.IntegrityAlgorithm.TheVariants.{Sha1, Sha256}
 use Rattle.turn_client_api.specs.Config.{Config}
-use Rattle.turn_client_api.specs.Judgement.{challenge_in}
-use Rattle.turn_client_api.specs.State.{State}
+use Rattle.turn_client_api.specs.State.{State, auth_of}
 use Rattle.turn_client_api.specs.Steps.{state_after_all}
 use Rattle.turn_client_api.specs.Transmit.{next_transmit}
 use Rattle.turn_client_api.specs.declared.call.Call.{Call}
@@ -114,18 +121,47 @@ IsNamed purpose calls = IsOwnRequest purpose ⊎ ((call : Call) × Contains call
 
 -- one of the inputs of these calls is this challenge
 abbrev pub WasHeard : Challenge → List Call → State → Type 0
-WasHeard challenge calls first = IsAmong (λ one. challenge_in one.before one.bytes ≡ Some challenge) (handled_in first calls)
+WasHeard challenge calls first = IsAmong (λ one. IsChallenge (auth_of one.before) one.bytes challenge) (handled_in first calls)
 
--- the credentials, as if the password were empty
-abbrev pub without_password : Credentials → Credentials
-without_password credentials = record credentials { password = [] }
+-- ---- how they are signed
 
--- The text, signed as the challenge requires. The password is in the key of the integrity, and in nothing else: the other bytes
--- are those of a client whose password is empty.
+-- the user: USERNAME, or if it is to be hidden USERHASH, SHA-256 of user ":" realm (RFC 8489, sections 14.3 and 14.4)
+abbrev pub user_attribute : Feature → List ℕ → List ℕ → Addition
+user_attribute Auto user realm = attribute 0x0006 user
+user_attribute Disabled user realm = attribute 0x0006 user
+user_attribute Required user realm = attribute 0x001e (sha256 (user ++ 0x3a ∷ realm))
+
+-- for SHA-256 the PASSWORD-ALGORITHMS of the challenge, and PASSWORD-ALGORITHM, whose number it is (sections 14.11, 14.12, 18.5.1)
+abbrev pub algorithm_attributes : IntegrityAlgorithm → List ℕ → List Addition
+algorithm_attributes Sha1 offered = []
+algorithm_attributes Sha256 offered = attribute 0x8002 offered ∷ attribute 0x001d (0 ∷ 2 ∷ 0 ∷ 0 ∷ []) ∷ []
+
+-- what a request has before its integrity: the user, REALM and NONCE; a response has none of them (sections 9.2.3 and 9.2.4)
+abbrev pub user_attributes : MessageClass → Feature → List ℕ → Challenge → List Addition
+user_attributes Request anonymous user held =
+    user_attribute anonymous user held.realm
+    ∷ attribute 0x0014 held.realm
+    ∷ attribute 0x0015 held.nonce
+    ∷ algorithm_attributes held.algorithm held.password_algorithms
+user_attributes Indication anonymous user held = []
+user_attributes Success anonymous user held = []
+user_attributes Error anonymous user held = []
+
+-- user ":" realm ":" password, of whose digest the key is made (sections 9.2.2 and 18.5.1)
+abbrev pub key_input : Credentials → List ℕ → List ℕ
+key_input credentials realm = (credentials.user ++ 0x3a ∷ realm) ++ 0x3a ∷ credentials.password
+
+-- MESSAGE-INTEGRITY or MESSAGE-INTEGRITY-SHA256: an HMAC of the message before it, whose length has to count its 24 or 36 bytes
+-- already (sections 14.5 and 14.6)
+abbrev pub with_mac : IntegrityAlgorithm → List ℕ → List ℕ → List ℕ
+with_mac Sha1 input text = with_attribute 0x0008 (hmac sha1 (md5 input) (with_length (length text - 20 + 24) text)) text
+with_mac Sha256 input text = with_attribute 0x001c (hmac sha256 (sha256 input) (with_length (length text - 20 + 36) text)) text
+
+-- The text, signed as the challenge requires. The password is in the key of the integrity, and in nothing else.
 abbrev pub signed_as : Config → Challenge → MessageClass → List ℕ → List ℕ
 signed_as config held class text =
-    with_integrity held.algorithm (key_of config.credentials held.realm held.algorithm)
-    (with_additions (additions_for class config.anonymous_username (without_password config.credentials) held) text)
+    with_mac held.algorithm (key_input config.credentials held.realm)
+    (with_additions (user_attributes class config.anonymous_username config.credentials.user held) text)
 
 -- the bytes are this text, signed under a challenge that was heard
 abbrev pub IsSigned : MessageClass → List ℕ → List ℕ → List Call → State → Type 0

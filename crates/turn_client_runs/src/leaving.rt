@@ -21,8 +21,7 @@ ghost use Rattle.turn_client_runs.specs.PacedRows.{sent_at};
 /// no others.
 ///
 /// All but the first and the last are signed under a challenge that came in (RFC 8489, section 9.2): with the user, its realm
-/// and its nonce, and for a response by the integrity alone. But for the value of that, whose key is made of it, they are the
-/// bytes of a client whose password is empty: so none of the password's bytes leaves otherwise.
+/// and its nonce, and for a response by the integrity alone. The password is in the key of that, and in nothing else.
 pub fn only_own_messages_leave()
     ensures own { HoldsOfRuns OnlyOwnLeave }
 {}
