@@ -1,5 +1,5 @@
 -- One iteration of the caller's loop.
-use Rattle.std.specs.Prelude.{◌≡◌, ◌⊎◌, ℕ, zero, suc, ◌<◌, false, List, [], ◌∷◌, ◌++◌, map, Option, Some, None, option_to_list}
+use Rattle.std.specs.Prelude.{◌≡◌, ◌⊎◌, ℕ, zero, suc, ◌+◌, ◌<◌, vec_capacity, vec_len, false, List, [], ◌∷◌, ◌++◌, map, Option, Some, None, option_to_list}
 use Rattle.std.specs.declared.alloc.Global.{Global}
 use Rattle.std.specs.declared.vec.Vec.{Vec}
 use Rattle.turn_stun.specs.declared.transport.Transmit.{Transmit}
@@ -64,6 +64,10 @@ abbrev pub drive_step : ℕ → Option (Transmit (Vec ℕ Global)) → ℕ → L
 drive_step most came now tasks s = drive_steps most now (begun (packet_in came) now (drive_state tasks s))
 
 -- ---- allocation failure
+
+-- the list has no room for one more
+abbrev pub IsFull : Vec Task Global → Type 0
+IsFull tasks = vec_capacity tasks < vec_len tasks + 1
 
 -- it failed when the packet was passed in
 abbrev pub StopsAtHand : Option (Transmit (List ℕ)) → ℕ → State → State → Type 0

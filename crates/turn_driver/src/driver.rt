@@ -1,11 +1,12 @@
 //! One iteration of the caller's loop.
 
-ghost use Rattle.std.specs.Prelude.{◌≡◌, ◌≤◌, ◌^◌, IfOk, OnErr, OnOk, Some};
+ghost use Rattle.std.specs.Prelude.{◌≡◌, ◌⊎◌, ◌≤◌, ◌^◌, IfOk, OnErr, OnOk, Some};
+ghost use Rattle.turn_client_api.specs.Answers.{RecvEnds};
 ghost use Rattle.turn_driver.specs.Given.{packet_in, packet_of};
 ghost use Rattle.turn_driver.specs.Next.{IsRestful};
 ghost use Rattle.turn_driver.specs.OnTime.{WakesOnTime};
 ghost use Rattle.turn_driver.specs.Run.{IsWhole};
-ghost use Rattle.turn_driver.specs.Driver.{Draws, Stops, StopsAtHand, begun, drive_state, driven, drive_step, drive_steps};
+ghost use Rattle.turn_driver.specs.Driver.{Draws, IsFull, Stops, StopsAtHand, begun, drive_state, driven, drive_step, drive_steps};
 
 use crate::next::{Next, next_task};
 use crate::task::{Rest, Task};
@@ -47,6 +48,10 @@ pub fn drive_client<C: TurnClientApi>(
 }
 
 /// Passes a packet in. What the client returns at once is appended to the list.
+///
+/// # Errors
+///
+/// If the list is full and memory allocation for it fails: the packet is dropped then. Or if it fails in the client.
 fn receive<C: TurnClientApi>(
     client: &mut C,
     came: Transmit<Vec<u8>>,
@@ -58,6 +63,7 @@ fn receive<C: TurnClientApi>(
         ≡ begun (Some (packet_of came)) now (drive_state tasks.old.items (C.state client.old))) }
     ensures list { OnErr result (tasks.new.items ≡ tasks.old.items) }
     ensures no_memory { OnErr result (StopsAtHand (Some (packet_of came)) now (C.state client.old) (C.state client.new)) }
+    ensures wanted { OnErr result (IsFull tasks.old ⊎ RecvEnds came.to came.payload.items now (C.state client.old) (C.state client.new)) }
 {
     // Room first (our choice): an allocation failure loses nothing that the client returns.
     tasks.reserve(1)?;
