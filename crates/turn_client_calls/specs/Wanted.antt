@@ -1,5 +1,5 @@
 -- Which calls a failed memory allocation may end, and how.
-use Rattle.std.specs.Prelude.{◌≡◌, ◌⊎◌, Bool, true, false, Ok, IsSome, ⊤}
+use Rattle.std.specs.Prelude.{◌≡◌, ◌⊎◌, ◌<◌, length, Ok, IsSome, ⊤}
 use Rattle.turn_client_api.specs.Calls.{FailsFamilies, allocated_tcp_socket_step, bind_channel_step, create_permission_step, delete_step, tcp_connect_step}
 use Rattle.turn_client_api.specs.State.{State}
 use Rattle.turn_client_api.specs.Steps.{EndsWithoutMemory, state_after}
@@ -28,14 +28,14 @@ WantsMemory _ s = ⊤
 abbrev pub EndsForMemory : Call → State → State → Type 0
 EndsForMemory call s t = EndsWithoutMemory call s t × WantsMemory call s
 
--- the reply has a copy of the bytes that the call returned, or a list
-abbrev pub is_copied : Reply → Bool
-is_copied (Replies.PeerData given) = true
-is_copied (Replies.SendTo (Ok packet)) = true
-is_copied (Replies.RelayedAddresses addresses) = true
-is_copied (Replies.Permissions addresses) = true
-is_copied _ = false
+-- the reply has a copy of bytes that the call returned, or a list, and it is not empty; or a packet for a peer
+abbrev pub IsCopied : Reply → Type 0
+IsCopied (Replies.PeerData given) = 0 < length given.«data»
+IsCopied (Replies.SendTo (Ok packet)) = ⊤
+IsCopied (Replies.RelayedAddresses addresses) = 0 < length addresses
+IsCopied (Replies.Permissions addresses) = 0 < length addresses
+IsCopied _ = ⊥
 
 -- the call failed so, or it was made, and a memory allocation for such a reply failed
 abbrev pub FailsForMemory : Call → State → State → Type 0
-FailsForMemory call s t = EndsForMemory call s t ⊎ ((is_copied (reply_of call s) ≡ true) × (t ≡ state_after call s))
+FailsForMemory call s t = EndsForMemory call s t ⊎ (IsCopied (reply_of call s) × (t ≡ state_after call s))

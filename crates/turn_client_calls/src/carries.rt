@@ -1,10 +1,10 @@
 //! The replies of the calls that carry data to and from peers.
 
-ghost use Rattle.std.specs.Prelude.{◌≡◌, ◌≤◌, ◌^◌, true, IfOk, OnErr, option_map};
+ghost use Rattle.std.specs.Prelude.{◌≡◌, ◌≤◌, ◌^◌, IfOk, OnErr, option_map};
 ghost use Rattle.turn_client_api.specs.Answers.{given_payload, outcome_of};
 ghost use Rattle.turn_client_api.specs.Calls.{FitsDatagram};
 ghost use Rattle.turn_client_calls.specs.Run.{poll_recv_reply, recv_reply, step};
-ghost use Rattle.turn_client_calls.specs.Wanted.{FailsForMemory, is_copied};
+ghost use Rattle.turn_client_calls.specs.Wanted.{FailsForMemory, IsCopied};
 
 use crate::{Call, PeerData, Reply};
 use std::alloc::{AllocError, Global};
@@ -57,13 +57,13 @@ pub(crate) fn recv<C: TurnClientApi>(
 ///
 /// # Errors
 ///
-/// If memory allocation for the copy fails.
+/// If memory allocation for the copy fails, which is not empty.
 pub fn received<T: AsSlice<u8> + Drop>(
     alloc: Global,
     returned: TurnRecvRet<T>,
 ) -> Result<Reply, AllocError>
     ensures reply { IfOk result (λ reply. reply ≡ recv_reply (outcome_of returned)) }
-    ensures copied { OnErr result (is_copied (recv_reply (outcome_of returned)) ≡ true) }
+    ensures copied { OnErr result (IsCopied (recv_reply (outcome_of returned))) }
 {
     match returned {
         TurnRecvRet::Handled => Ok(Reply::Handled),
@@ -103,10 +103,10 @@ pub(crate) fn poll_recv<C: TurnClientApi>(
 ///
 /// # Errors
 ///
-/// If memory allocation for the copy fails.
+/// If memory allocation for the copy fails, which is not empty.
 pub fn drained(alloc: Global, returned: Option<TurnPeerData<Vec<u8>>>) -> Result<Reply, AllocError>
     ensures reply { IfOk result (λ reply. reply ≡ poll_recv_reply (option_map given_payload returned)) }
-    ensures copied { OnErr result (is_copied (poll_recv_reply (option_map given_payload returned)) ≡ true) }
+    ensures copied { OnErr result (IsCopied (poll_recv_reply (option_map given_payload returned))) }
 {
     match returned {
         Some(given) => Ok(Reply::PeerData(PeerData::copy_of(alloc, &given)?)),

@@ -1,5 +1,9 @@
 //! The result of a call as a value.
 
+ghost use Rattle.std.specs.Prelude.{◌≡◌, ◌<◌, length, IfOk, OnErr};
+ghost use Rattle.turn_client_api.specs.Answers.{given_payload};
+ghost use Rattle.turn_client_calls.specs.Run.{peer_data};
+
 use crate::{PermittedAddresses, RelayedAddresses};
 use std::alloc::{AllocError, Global};
 use std::convert::AsSlice;
@@ -23,22 +27,19 @@ pub struct PeerData {
 }
 
 impl PeerData {
-    ghost use Rattle.std.specs.Prelude.{◌≡◌, IfOk};
-    ghost use Rattle.turn_client_api.specs.Answers.{given_payload};
-    ghost use Rattle.turn_client_calls.specs.Run.{peer_data};
-
     /// What a client returned, with a copy of the bytes.
     ///
     /// # Errors
     ///
-    /// If memory allocation for the copy fails.
+    /// If memory allocation for the copy fails. Data of no bytes need none.
     pub fn copy_of<T: AsSlice<u8>>(
         alloc: Global,
         given: &TurnPeerData<T>,
     ) -> Result<PeerData, AllocError>
-        ensures { IfOk result (λ copy. copy ≡ peer_data (given_payload given.now)) }
+        ensures copy { IfOk result (λ copy. copy ≡ peer_data (given_payload given.now)) }
+        ensures wanted { OnErr result (0 < length (given_payload given.now).bytes) }
     {
-        let bytes = Vec::from_slice(alloc, given.data())?;
+        let bytes = copy_of(alloc, given.data())?;
         Ok(PeerData {
             transport: given.transport,
             peer: given.peer,
@@ -101,4 +102,15 @@ pub enum Reply {
     SetChannelKept(Result<(), KeepError>),
     /// `tcp_closed` was made, or `protocol_error` succeeded.
     Done,
+}
+
+/// A copy of the bytes, which allocates no memory if there are none.
+fn copy_of(alloc: Global, bytes: &[u8]) -> Result<Vec<u8>, AllocError>
+    ensures items { IfOk result (λ copy. copy.items ≡ bytes.now) }
+    ensures wanted { OnErr result (0 < length bytes.now) }
+{
+    if bytes.is_empty() {
+        return Ok(Vec::new(alloc));
+    }
+    Vec::from_slice(alloc, bytes)
 }
