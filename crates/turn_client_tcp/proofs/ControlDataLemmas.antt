@@ -1,5 +1,5 @@
 -- Data at the front of the control stream: it is what the next step of the streams gives.
-use Rattle.std.proofs.Common.{◌≡◌, ℕ, Bool, true, false, cond, List, [], ◌∷◌, length, Option, Some, None, IsSome, inr, refl, subst, sym, ap, ◌∙◌}
+use Rattle.std.proofs.Common.{◌≡◌, ◌<◌, ℕ, Bool, true, false, cond, List, [], ◌∷◌, length, Option, Some, None, inr, refl, subst, sym, ap, ◌∙◌}
 use Rattle.std.specs.Prelude.{find, is_some}
 use Rattle.std.specs.Option.{option_map_or}
 use Rattle.std.specs.declared.net.socket_addr.SocketAddr.{SocketAddr}
@@ -18,7 +18,7 @@ use Rattle.turn_client_streams.specs.Buffered.{front_frame, is_control_mode, pas
 use Rattle.turn_client_streams.specs.Held.{control_passed, control_stream}
 use Rattle.turn_client_tcp.specs.ControlData.{channel_data, control_data, control_ended, data_from, stream_data}
 use Rattle.turn_client_tcp.specs.StreamSteps.{owned_payload}
-use Rattle.turn_client_tcp.specs.Wanted.{EndsInNeed, FrontWantsMemory, StepWantsMemory}
+use Rattle.turn_client_tcp.specs.Wanted.{EndsInNeed, FrontWantsMemory, HasBytes, StepWantsMemory}
 use Rattle.turn_client_tcp.proofs.PieceLemmas.{front-begins, passed-local}
 use Rattle.turn_client_tcp.proofs.TurnLemmas.{first-Rests, framed-some, front-wants, rests-some, stays-led}
 
@@ -108,36 +108,36 @@ data-given now s payload e =
     rests-some now s s g.stream payload (found now s payload g) (ap (λ p. owned_payload p.0) step ∙ g.sent) (first-Rests now s)
     ∙ ap (λ p. (Some payload, p.1)) step
 
-pub data-ends : (now : ℕ) (s : State) → IsSome (control_data s) → EndsAfterSteps now s (control_ended s)
+pub data-ends : (now : ℕ) (s : State) → HasBytes (control_data s) → EndsAfterSteps now s (control_ended s)
 data-ends now s e = by (control_data s) refl e
   where
-    by : (o : Option Payload) → control_data s ≡ o → IsSome o → EndsAfterSteps now s (control_ended s)
-    by None f e = cc
+    by : (o : Option Payload) → control_data s ≡ o → HasBytes o → EndsAfterSteps now s (control_ended s)
+    by None f e = absurd e
     by (Some payload) f e =
         let g = given s payload f in
         (s, stays-led now s, rw (found now s payload g, g.control) refl)
 
 -- a copy of the data needs memory
-sent-some : (now : ℕ) (s t : State) (payload : Payload) (g : Given s payload) → channel_sent t g.frame ≡ channel_sent s g.frame
-    → IsSome (owned_payload (frame_step g.stream g.frame now t).0)
-sent-some now s t payload g same =
+sent-some : (now : ℕ) (s t : State) (payload : Payload) (g : Given s payload) → 0 < length payload.bytes → channel_sent t g.frame ≡ channel_sent s g.frame
+    → HasBytes (owned_payload (frame_step g.stream g.frame now t).0)
+sent-some now s t payload g more same =
     let mode : g.stream.mode ≡ Control = (first-ready s.streams g.stream g.frame g.control g.front).1 in
-    rw (mode, g.begins, same, g.sent) refl
+    rw (mode, g.begins, same, g.sent) more
 
 step-wants : (stream : Stream) (now : ℕ) (t : State) → stream.mode ≡ Control → FrontWantsMemory stream now t → StepWantsMemory stream now t
 step-wants stream now t mode wants = rw mode (rw mode at wants)
 
-pub data-wants : (now : ℕ) (s : State) → IsSome (control_data s) → EndsInNeed now s (control_ended s)
+pub data-wants : (now : ℕ) (s : State) → HasBytes (control_data s) → EndsInNeed now s (control_ended s)
 data-wants now s e = by (control_data s) refl e
   where
-    by : (o : Option Payload) → control_data s ≡ o → IsSome o → EndsInNeed now s (control_ended s)
-    by None f e = cc
+    by : (o : Option Payload) → control_data s ≡ o → HasBytes o → EndsInNeed now s (control_ended s)
+    by None f e = absurd e
     by (Some payload) f e =
         let g = given s payload f in
         let t : State = with_bytes g.stream.local [] s in
         let mode : g.stream.mode ≡ Control = (first-ready s.streams g.stream g.frame g.control g.front).1 in
         let front : FrontWantsMemory g.stream now t =
-        front-wants g.stream g.frame now t (front-begins g.stream g.frame (sym g.front)) (sym g.front) (inr (sent-some now s t payload g refl)) in
+        front-wants g.stream g.frame now t (front-begins g.stream g.frame (sym g.front)) (sym g.front) (inr (sent-some now s t payload g e refl)) in
         (s, stays-led now s, rw (found now s payload g, g.control) (step-wants g.stream now t mode front, refl))
 
 -- ---- what is found at the front

@@ -1,9 +1,10 @@
 //! Data of a peer that was received over a stream.
 
-ghost use Rattle.std.specs.Prelude.{◌≡◌};
+ghost use Rattle.std.specs.Prelude.{◌≡◌, ◌<◌, length, IfOk, OnErr};
 ghost use Rattle.turn_client_api.specs.Answers.{given_payload};
 ghost use Rattle.turn_client_tcp.specs.StreamSteps.{received_payload};
 
+use std::alloc::{AllocError, Global};
 use std::convert::AsSlice;
 use std::net::SocketAddr;
 use turn_client_api::{DataRangeOrOwned, TurnPeerData};
@@ -32,4 +33,19 @@ impl Received {
         } = self;
         TurnPeerData::new(transport, peer, DataRangeOrOwned::Owned(bytes))
     }
+}
+
+/// A copy of the bytes, which allocates no memory if there are none.
+///
+/// # Errors
+///
+/// If memory allocation fails.
+pub(crate) fn copy_of(alloc: Global, bytes: &[u8]) -> Result<Vec<u8>, AllocError>
+    ensures items { IfOk result (λ copy. copy.items ≡ bytes.now) }
+    ensures wanted { OnErr result (0 < length bytes.now) }
+{
+    if bytes.is_empty() {
+        return Ok(Vec::new(alloc));
+    }
+    Vec::from_slice(alloc, bytes)
 }

@@ -1,13 +1,14 @@
 //! ChannelData messages of the control connection, read where they are buffered (RFC 8656, sections 12.5 and
 //! 12.6).
 
-ghost use Rattle.std.specs.Prelude.{◌≡◌, false, length, IfOk, IfSome, IsSome, OnErr, OnOk, Some, option_map};
+ghost use Rattle.std.specs.Prelude.{◌≡◌, false, length, IfOk, IfSome, OnErr, OnOk, Some, option_map};
 ghost use Rattle.turn_client_tcp.specs.ControlData.{IsControlFront, channel_data, control_data, control_ended, data_passed, data_from};
 ghost use Rattle.turn_client_tcp.specs.StreamSteps.{received_payload};
+ghost use Rattle.turn_client_tcp.specs.Wanted.{HasBytes};
 ghost use Rattle.turn_types.specs.Frames.{begins_message, frame_len};
 
 use crate::protocol::TurnClientTcpProtocol;
-use crate::received::Received;
+use crate::received::{Received, copy_of};
 use std::alloc::AllocError;
 use std::net::SocketAddr;
 use turn_client_streams::{FrameKind, Front};
@@ -30,13 +31,13 @@ impl TurnClientTcpProtocol {
     ///
     /// # Errors
     ///
-    /// If memory allocation for the data fails. The control stream is broken then, and the client has
-    /// ended.
+    /// If memory allocation for the data fails, which are not empty. The control stream is broken then,
+    /// and the client has ended.
     pub(crate) fn take_control_data(&mut self) -> Result<Option<Received>, AllocError>
         ensures answer { IfOk result (λ given. option_map received_payload given ≡ control_data self.old) }
         ensures after { OnOk result (self.new ≡ data_passed self.old) }
         ensures no_memory { OnErr result (self.new ≡ control_ended self.old) }
-        ensures wanted { OnErr result (IsSome (control_data self.old)) }
+        ensures wanted { OnErr result (HasBytes (control_data self.old)) }
     {
         let Some(frame) = self.channel_frame() else {
             return Ok(None);
@@ -44,7 +45,7 @@ impl TurnClientTcpProtocol {
         let ChannelFrame { peer, payload, len } = frame;
         let peer = *peer;
         let transport = self.control.allocation_transport();
-        match Vec::from_slice(self.alloc, payload) {
+        match copy_of(self.alloc, payload) {
             Ok(bytes) => {
                 self.streams.pass_control(len);
                 Ok(Some(Received {

@@ -15,6 +15,7 @@ ghost use Rattle.turn_client_streams.specs.Front.{IsOfKind};
 ghost use Rattle.turn_client_tcp.specs.Origins.{IsCarriedBy, carried_step, carried_takes_memory};
 ghost use Rattle.turn_client_tcp.specs.StreamSteps.{EndsBehind, IsFront, PieceEnds, bound_sent, broken_piece_step, came_with, fed_frame_step};
 ghost use Rattle.turn_client_tcp.specs.StreamSteps.{given_as, left_by, bytes_in_range, whole_piece_step, put_or_broken};
+ghost use Rattle.turn_client_tcp.specs.Wanted.{EndsInNeed};
 ghost use Rattle.turn_types.specs.Frames.{frame_len};
 ghost use Rattle.turn_types.specs.Incoming.{IsNamedIncoming, incoming_bytes};
 
@@ -91,6 +92,7 @@ impl TurnClientTcpProtocol {
         ensures hands_back { (transmit : Transmit T) → HandsBack transmit first → IfOk result (HandsBack transmit) }
         ensures after { OnOk result (self.new ≡ (then_all now (outcome_of first, self.old)).1) }
         ensures no_memory { OnErr result (EndsBehind now (outcome_of first, self.old) self.new) }
+        ensures wanted { OnErr result (EndsInNeed now self.old self.new) }
     {
         match first {
             TurnRecvRet::Handled | TurnRecvRet::Ignored(_) => match self.process_ready(now)? {
@@ -119,6 +121,7 @@ impl TurnClientTcpProtocol {
         ensures hands_back { (transmit : Transmit T) → IfOk result (HandsBack transmit) }
         ensures after { OnOk result (self.new ≡ (broken_piece_step local now self.old).1) }
         ensures no_memory { OnErr result ((same_address local self.old.local ≡ true) × EndsAfterSteps now self.old self.new) }
+        ensures wanted { OnErr result (EndsInNeed now self.old self.new) }
     {
         if local == self.control.local_addr() {
             return self.then_all(TurnRecvRet::Handled, now);

@@ -9,11 +9,11 @@ ghost use Rattle.turn_client_tcp.specs.Origins.{IsCarriedBy};
 ghost use Rattle.turn_client_tcp.specs.Lent.{IsBoundFirst};
 ghost use Rattle.turn_client_core.specs.ProtocolRecv.{IsPart, outcome_in};
 ghost use Rattle.turn_client_tcp.specs.StreamSteps.{received_payload, owned_payload};
-ghost use Rattle.turn_client_tcp.specs.Wanted.{EndsInNeed, FrontWantsMemory, StepWantsMemory};
+ghost use Rattle.turn_client_tcp.specs.Wanted.{EndsInNeed, FrontWantsMemory, HasBytes, StepWantsMemory};
 
 use crate::protocol::TurnClientTcpProtocol;
 use crate::protocol::frame::FrameOrigin;
-use crate::received::Received;
+use crate::received::{Received, copy_of};
 use std::alloc::AllocError;
 use turn_client_api::{Mode, Phase};
 use turn_client_core::TurnProtocolRecv;
@@ -128,7 +128,7 @@ impl TurnClientTcpProtocol {
     ///
     /// # Errors
     ///
-    /// If memory allocation for the copy fails.
+    /// If memory allocation for the copy fails. A copy of no bytes needs none.
     fn owned(
         &self,
         frame: &[u8],
@@ -136,13 +136,13 @@ impl TurnClientTcpProtocol {
     ) -> Result<Option<Received>, AllocError>
         requires part { IsPart frame.now self.now self.now reported }
         ensures answer { IfOk result (λ given. option_map received_payload given ≡ owned_payload (outcome_in frame.now reported)) }
-        ensures memory { owned_payload (outcome_in frame.now reported) ≡ None → IsOk result }
+        ensures wanted { OnErr result (HasBytes (owned_payload (outcome_in frame.now reported))) }
     {
         match reported {
             TurnProtocolRecv::Handled => Ok(None),
             TurnProtocolRecv::Ignored => Ok(None),
             TurnProtocolRecv::PeerData(transport, peer, place) => {
-                let bytes = Vec::from_slice(self.alloc, &frame[place.start..place.end])?;
+                let bytes = copy_of(self.alloc, &frame[place.start..place.end])?;
                 Ok(Some(Received {
                     transport,
                     peer,

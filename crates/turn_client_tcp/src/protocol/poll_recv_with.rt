@@ -4,6 +4,7 @@ ghost use Rattle.std.specs.Prelude.{◌≡◌, All, [], IfOk, IsNone, IsOk, OnEr
 ghost use Rattle.turn_client_api.specs.Answers.{EndsAfterSteps};
 ghost use Rattle.turn_client_api.specs.Streams.{HoldsLittle, poll_recv_step};
 ghost use Rattle.turn_client_tcp.specs.Lent.{IsBoundFirst, IsLentInPlace, IsReadIfAny};
+ghost use Rattle.turn_client_tcp.specs.Wanted.{EndsInNeed};
 ghost use Rattle.turn_client_laws.specs.LawsOrder.{IsUngranted};
 
 use crate::protocol::TurnClientTcpProtocol;
@@ -34,6 +35,7 @@ impl TurnClientTcpProtocol {
         ensures little { IfOk result (λ given. IsNone given → All HoldsLittle self.new.streams) }
         ensures after { OnOk result (self.new ≡ (poll_recv_step now self.old).1) }
         ensures no_memory { OnErr result (EndsAfterSteps now self.old self.new) }
+        ensures wanted { OnErr result (EndsInNeed now self.old self.new) }
         ensures free { IsLentInPlace self.old → IsOk result }
     {
         let Some(frame) = self.channel_frame() else {
@@ -62,6 +64,7 @@ impl TurnClientTcpProtocol {
         ensures little { IfOk result (λ given. IsNone given → All HoldsLittle self.new.streams) }
         ensures after { OnOk result (self.new ≡ (poll_recv_step now self.old).1) }
         ensures no_memory { OnErr result (EndsAfterSteps now self.old self.new) }
+        ensures wanted { OnErr result (EndsInNeed now self.old self.new) }
         ensures free { IsBoundFirst self.old → IsOk result }
     {
         match self.process_ready(now)? {
