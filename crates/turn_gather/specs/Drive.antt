@@ -1,5 +1,5 @@
 -- Lists of calls: each call is its own step, in order.
-use Rattle.std.specs.Prelude.{◌≤◌, ◌^◌, List, [], ◌∷◌, ◌++◌, Option, Some, None, ⊤, if◌then◌else◌}
+use Rattle.std.specs.Prelude.{◌<◌, ◌≤◌, ◌^◌, length, List, [], ◌∷◌, ◌++◌, Option, Some, None, ⊤, if◌then◌else◌}
 use Rattle.std.specs.declared.net.socket_addr.SocketAddr.{SocketAddr}
 use Rattle.turn_stun.specs.declared.transport.TransportType.{TransportType}
 use Rattle.turn_client_api.specs.State.{State}
@@ -80,6 +80,11 @@ after call s = record { client = client_after call s.client; checked = checked_a
 -- the answer, and the gatherer after it
 abbrev pub gather_step : Gathering → GatherCall → GatherReply × Gathering
 gather_step s call = (gather_reply_of call s, after call s)
+
+-- the answer has a copy of data, which are not empty
+abbrev pub IsCopied : GatherReply → Type 0
+IsCopied (Replies.Payload payload) = 0 < length payload.«data»
+IsCopied _ = ⊥
 
 -- ---- calls that can be made
 

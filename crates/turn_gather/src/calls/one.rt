@@ -1,9 +1,10 @@
 //! One call of a gatherer, of any kind.
 
-ghost use Rattle.std.specs.Prelude.{◌≡◌, ◌≤◌, ◌^◌, true, is_ok, IfOk, OnErr};
-ghost use Rattle.turn_gather.specs.Drive.{IsGatherCallable, gather_step, gathered_reply};
+ghost use Rattle.std.specs.Prelude.{◌≡◌, ◌⊎◌, ◌≤◌, ◌^◌, true, is_ok, IfOk, Ok, OnErr};
+ghost use Rattle.turn_gather.specs.Drive.{IsCopied, IsGatherCallable, gather_reply_of, gather_step, gathered_reply};
 ghost use Rattle.turn_gather.specs.Received.{gathered_of};
-ghost use Rattle.turn_client_api.specs.Calls.{FitsDatagram, send_to_step};
+ghost use Rattle.turn_client_api.specs.Answers.{EndsAfterSteps, RecvEnds};
+ghost use Rattle.turn_client_api.specs.Calls.{FitsDatagram, create_permission_step, send_to_step};
 
 use crate::calls::{GatherCall, GatherReply};
 use crate::error::GatherError;
@@ -88,7 +89,9 @@ fn recv<C: TurnClientApi>(
     now: Instant,
 ) -> Result<GatherReply, AllocError>
     requires { now ≤ 2 ^ 62 }
-    ensures { IfOk result (λ reply. (reply, gatherer.new) ≡ gather_step gatherer.old (GatherCall.Recv transmit.now now)) }
+    ensures answer { IfOk result (λ reply. (reply, gatherer.new) ≡ gather_step gatherer.old (GatherCall.Recv transmit.now now)) }
+    ensures wanted { OnErr result (RecvEnds transmit.now.to transmit.now.payload now gatherer.old.client gatherer.new.client
+        ⊎ IsCopied (gather_reply_of (GatherCall.Recv transmit.now now) gatherer.old)) }
 {
     let bytes = transmit.payload.as_bytes();
     let packet = Transmit::new(bytes, transmit.transport, transmit.from, transmit.to);
@@ -103,7 +106,9 @@ fn poll_recv<C: TurnClientApi>(
     now: Instant,
 ) -> Result<GatherReply, AllocError>
     requires { now ≤ 2 ^ 62 }
-    ensures { IfOk result (λ reply. (reply, gatherer.new) ≡ gather_step gatherer.old (GatherCall.PollRecv now)) }
+    ensures answer { IfOk result (λ reply. (reply, gatherer.new) ≡ gather_step gatherer.old (GatherCall.PollRecv now)) }
+    ensures wanted { OnErr result (EndsAfterSteps now gatherer.old.client gatherer.new.client
+        ⊎ IsCopied (gather_reply_of (GatherCall.PollRecv now) gatherer.old)) }
 {
     match gatherer.poll_recv(now)? {
         Some(given) => as_reply(alloc, &given),
@@ -116,7 +121,8 @@ fn as_reply<T: AsSlice<u8> + Debug + Drop>(
     alloc: Global,
     given: &GatherRecv<T>,
 ) -> Result<GatherReply, AllocError>
-    ensures { IfOk result (λ reply. reply ≡ gathered_reply (gathered_of given.now)) }
+    ensures answer { IfOk result (λ reply. reply ≡ gathered_reply (gathered_of given.now)) }
+    ensures copied { OnErr result (IsCopied (gathered_reply (gathered_of given.now))) }
 {
     match given {
         GatherRecv::Handled => Ok(GatherReply::Handled),
@@ -134,7 +140,8 @@ fn create_permission<C: TurnClientApi>(
     now: Instant,
 ) -> Result<GatherReply, AllocError>
     requires { now ≤ 2 ^ 62 }
-    ensures { IfOk result (λ reply. (reply, gatherer.new) ≡ gather_step gatherer.old (GatherCall.CreatePermission transport peer_addr now)) }
+    ensures answer { IfOk result (λ reply. (reply, gatherer.new) ≡ gather_step gatherer.old (GatherCall.CreatePermission transport peer_addr now)) }
+    ensures wanted { OnErr result ((create_permission_step transport peer_addr now gatherer.old.client).0 ≡ Ok tt) }
 {
     match gatherer.create_permission(transport, peer_addr, now) {
         Err(CreatePermissionError::OutOfMemory) => Err(AllocError),
