@@ -1,0 +1,11 @@
+pub mod Asking
+pub mod Calls
+pub mod Connecting
+pub mod Ending
+pub mod Finishing
+pub mod Next
+pub mod RelayState
+pub mod Restoring
+pub mod Sending
+pub mod Settings
+pub mod Taking
