@@ -20,11 +20,11 @@ use Rattle.turn_client_calls.specs.declared.reply.Reply.{Reply}
 use Rattle.turn_c_calls.specs.Address.{c_address, address_of_ip, transport_code}
 use Rattle.turn_c_calls.specs.declared.address.Address.{Address}
 use Rattle.turn_c_calls.specs.declared.answer.Answer.{Answer}
-use Rattle.turn_c_calls.specs.declared.code.TheConstants.{ADDRESS, ALLOCATION_CREATE_FAILED, ALLOCATION_CREATED, ERROR_ALREADY_EXISTS}
+use Rattle.turn_c_calls.specs.declared.code.TheConstants.{ADDRESS, ALLOCATION_CREATE_FAILED, ALLOCATION_CREATED}
 use Rattle.turn_c_calls.specs.declared.code.TheConstants.{CHANNEL_CREATE_FAILED, CHANNEL_CREATED, TCP_CLOSE, TCP_CONNECT_FAILED, TCP_CONNECTED, PEER_DATA}
-use Rattle.turn_c_calls.specs.declared.code.TheConstants.{DONE, CLOSED, ERROR_EXPIRED, HANDLED, PEER_ICMP, IGNORED, IPV4, IPV6, ERROR_NO_ALLOCATION}
-use Rattle.turn_c_calls.specs.declared.code.TheConstants.{ERROR_NO_PERMISSION, ERROR_NO_SOCKET, NOTHING, ALLOCATE_TCP_SOCKET, ERROR_OUT_OF_MEMORY, PACKET}
-use Rattle.turn_c_calls.specs.declared.code.TheConstants.{PERMISSION_CREATE_FAILED, PERMISSION_CREATED, REFUSED, WAIT_UNTIL, ERROR_NOT_GRANTED}
+use Rattle.turn_c_calls.specs.declared.code.TheConstants.{DONE, CLOSED, HANDLED, PEER_ICMP, IGNORED, IPV4, IPV6}
+use Rattle.turn_c_calls.specs.declared.code.TheConstants.{NOTHING, ALLOCATE_TCP_SOCKET, PACKET}
+use Rattle.turn_c_calls.specs.declared.code.TheConstants.{PERMISSION_CREATE_FAILED, PERMISSION_CREATED, REFUSED, WAIT_UNTIL}
 
 -- an answer of this kind
 abbrev pub of_kind : ℕ → Answer → Answer
@@ -81,15 +81,15 @@ event_answer (ChannelCreateFailed transport peer) a = peer_answer CHANNEL_CREATE
 event_answer (TcpConnected peer) a = record a { kind = TCP_CONNECTED; peer = c_address peer }
 event_answer (TcpConnectFailed peer) a = record a { kind = TCP_CONNECT_FAILED; peer = c_address peer }
 
--- the error of a call
+-- the error of a call, by the numbers that C programs were built with
 abbrev pub refusal_answer : Refusal → Answer → Answer
-refusal_answer Refused.AlreadyExists a = record a { kind = REFUSED; error = ERROR_ALREADY_EXISTS }
-refusal_answer Refused.NoAllocation a = record a { kind = REFUSED; error = ERROR_NO_ALLOCATION }
-refusal_answer Refused.NoPermission a = record a { kind = REFUSED; error = ERROR_NO_PERMISSION }
-refusal_answer Refused.NoSocket a = record a { kind = REFUSED; error = ERROR_NO_SOCKET }
-refusal_answer (Refused.Expired until) a = record a { kind = REFUSED; error = ERROR_EXPIRED; time = until }
-refusal_answer Refused.NotGranted a = record a { kind = REFUSED; error = ERROR_NOT_GRANTED }
-refusal_answer Refused.OutOfMemory a = record a { kind = REFUSED; error = ERROR_OUT_OF_MEMORY }
+refusal_answer Refused.AlreadyExists a = record a { kind = REFUSED; error = 1 }
+refusal_answer Refused.NoAllocation a = record a { kind = REFUSED; error = 2 }
+refusal_answer Refused.NoPermission a = record a { kind = REFUSED; error = 3 }
+refusal_answer Refused.NoSocket a = record a { kind = REFUSED; error = 4 }
+refusal_answer (Refused.Expired until) a = record a { kind = REFUSED; error = 5; time = until }
+refusal_answer Refused.NotGranted a = record a { kind = REFUSED; error = 6 }
+refusal_answer Refused.OutOfMemory a = record a { kind = REFUSED; error = 255 }
 
 -- the relayed address at an index, or that there is none
 abbrev pub relayed_answer : Option (TransportType × SocketAddr) → Answer → Answer

@@ -1,5 +1,5 @@
 -- A new session.
-use Rattle.std.specs.Prelude.{◌≡◌, ℕ, ◌==◌, if◌then◌else◌, max, unwrap_or, List, [], length, Option, Some, None, Result, Ok, Err, ⊤}
+use Rattle.std.specs.Prelude.{◌≡◌, ℕ, ◌==◌, if◌then◌else◌, max, unwrap_or, List, [], length, Option, Some, None, IsSome, Result, Ok, Err, IsOk}
 use Rattle.std.specs.Option.{option_map}
 use Rattle.turn_auth.specs.Credentials.{Credentials}
 use Rattle.turn_client_api.specs.Config.{Config, least_keepalive, least_refresh_ahead}
@@ -51,15 +51,15 @@ session_of settings user password seed =
     needed (credentials_with user password) Errors.Credentials (λ credentials.
     needed (c_seed seed) Errors.Seed (λ seed. Ok (new_session plan credentials seed))))
 
--- why there are no credentials
+-- why there are no credentials: they are invalid, or memory allocation failed
 abbrev pub IsNoUser : List ℕ → List ℕ → OpenError → Type 0
 IsNoUser user password Errors.Credentials = credentials_with user password ≡ None
-IsNoUser user password Errors.OutOfMemory = ⊤
+IsNoUser user password Errors.OutOfMemory = IsSome (credentials_with user password)
 IsNoUser user password _ = ⊥
 
--- why there is none: the first error, or memory allocation failed
+-- why there is none: the first error, or if there is none memory allocation failed
 abbrev pub Refuses : Result Held OpenError → OpenError → Type 0
-Refuses said Errors.OutOfMemory = ⊤
+Refuses said Errors.OutOfMemory = IsOk said
 Refuses said fault = said ≡ Err fault
 
 abbrev pub error_code : OpenError → ℕ

@@ -17,7 +17,7 @@ use turn_client_api::TurnConfig;
 use turn_client_calls::settings::{Ends, configuration};
 use turn_client_proto::client::TurnClient;
 
-/// Why there is no session: the first of these that holds. A memory allocation may also fail before the seed is tested.
+/// Why there is no session: the first of these that holds.
 #[derive(Clone, Copy, Debug, PartialEq, Eq)]
 pub enum OpenError {
     /// The settings have a number or an address that is invalid, or a reserved place that is not 0, or a client over UDP
@@ -76,8 +76,13 @@ pub fn new_session(
     ensures err { IfErr result (Refuses (session_of settings.now user.now password.now seed.now)) }
 {
     let plan = plan_of(settings).ok_or(OpenError::Settings)?;
-    let credentials = credentials(alloc, user, password)?;
+    let credentials = match credentials(alloc, user, password) {
+        Err(OpenError::OutOfMemory) => None,
+        made => Some(made?),
+    };
+    // A wrong seed is told first, also if memory allocation failed.
     let seed = c_seed(seed).ok_or(OpenError::Seed)?;
+    let credentials = credentials.ok_or(OpenError::OutOfMemory)?;
     let client = new_client(alloc, plan, credentials, seed)?;
     Ok(Session::new(client, plan.request.allocation))
 }
